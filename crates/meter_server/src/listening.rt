@@ -3,8 +3,9 @@ ghost use Rattle.std.specs.Prelude.{◌≡◌, ◌≢◌, ⊤, ℕ, Option, None
 ghost use Rattle.std.specs.Prelude.{IfSome, IfNone, IfOk, OnOk, OnErr};
 ghost use Rattle.acse_ber.specs.Password.{IsPassword};
 ghost use Rattle.meter_server.specs.JournaledSessions.{AnswersCalls, client_steps, client_terms};
+ghost use Rattle.meter_server.specs.Listening.{setup_failures_in};
 ghost use Rattle.meter_server.specs.Sessions.{AsksThrough};
-ghost use Rattle.port_threads.specs.Listening.{IfReady, RisesBy};
+ghost use Rattle.port_threads.specs.Listening.{IfReady, RisesBy, setup_failures_of};
 ghost use Rattle.session_io.specs.Serving.{ServesSession};
 ghost use Rattle.session_io.specs.Sides.{input_of, outlets_of};
 ghost use Rattle.turn_lock.specs.Shown.{IsSame};
@@ -48,13 +49,21 @@ pub trait Listener {
     /// claims nothing.
     ghost accepted: { Self → Option ℕ } = { λ _. None };
 
+    /// Ghost value: the number of clients accepted so far whose stream could not be set up, if the
+    /// listener counts them. The default claims nothing.
+    ghost setup_failures: { Self → Option ℕ } = { λ _. None };
+
     /// Waits for the next client and returns its input and its output. Returns `None` if a client
     /// connected but its stream could not be set up; it was closed without a byte sent. After an
     /// error no further client is accepted.
     fn accept(&mut self) -> Result<Option<(Self::Input, Self::Output)>, ListenFault>
         ensures failed { OnErr result (has_failed self.new) }
         ensures accepted { OnOk result (RisesBy (accepted self.old) 1 (accepted self.new)) }
-        ensures accepted_err { OnErr result (RisesBy (accepted self.old) 0 (accepted self.new)) };
+        ensures accepted_err { OnErr result (RisesBy (accepted self.old) 0 (accepted self.new)) }
+        ensures setup_failures { IfOk result (λ client. RisesBy (setup_failures self.old)
+            (setup_failures_in client) (setup_failures self.new)) }
+        ensures setup_failures_err { OnErr result
+            (RisesBy (setup_failures self.old) 0 (setup_failures self.new)) };
 
     /// Is called if serving ends before it accepts a client, because no memory or no thread was
     /// available: the sources of the meter's own events may end too. The default does nothing.
@@ -164,6 +173,7 @@ fn prepare_client<I: Drop, O: Drop, D: Durability>(
         ≡ client_terms journal.now password.now) result }
     ensures ready { IfSome streams (λ _. result ≢ Arrival.SetupFailed) }
     ensures none { IfNone streams (result ≡ Arrival.SetupFailed) }
+    ensures counted { setup_failures_of result ≡ setup_failures_in streams }
 {
     let Some((input, output)) = streams else {
         return Arrival::SetupFailed;
@@ -201,6 +211,8 @@ impl<'a, 'b, L: Listener, D: Durability + Send + 'static> port_threads::Connecti
     ghost terms = { λ clients. client_terms clients.journal.now clients.password.now };
 
     ghost accepted = { λ clients. L.accepted clients.listener.now };
+
+    ghost setup_failures = { λ clients. L.setup_failures clients.listener.now };
 
     ghost borrowed = { λ clients. Some clients.listener.ghost_name };
 

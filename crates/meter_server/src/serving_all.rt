@@ -5,6 +5,7 @@ ghost use Rattle.acse_ber.specs.Password.{IsPassword};
 ghost use Rattle.shared_meter.specs.Calls.{IsLegal as IsLegalRun};
 ghost use Rattle.meter_server.specs.ServingAll.{Acted, EndsWith, IsLimit, IsServed, IsSpent, StopsFor, OnEnded, worker_fault, first_of};
 ghost use Rattle.meter_server.specs.JournaledSessions.{AreJournaled};
+ghost use Rattle.meter_server.specs.Listening.{HaveReasons};
 ghost use Rattle.meter_server.specs.Sessions.{AreSessions};
 ghost use Rattle.meter_server.specs.WithSources.{ServesWith, first_then};
 ghost use Rattle.shared_meter.specs.Blocks.{AllBlocks};
@@ -98,6 +99,8 @@ fn serve_clients<
     ensures counted { IfOk result
         (λ served. IsCounted (L.accepted listener.old) (served.served + served.turned_away)
         (L.accepted listener.new)) }
+    ensures reasons { IfOk result (λ served. HaveReasons (L.setup_failures listener.old) served
+        (L.setup_failures listener.new)) }
     ensures served { IfOk result (IsServed port.old.known.splits port.new.known.splits) }
     ensures fault { IfErr result (StopsFor ⊥ (L.has_failed listener.new)) }
 {
@@ -164,6 +167,8 @@ fn serve_with_one<
     ensures counted { IfOk result
         (λ served. IsCounted (L.accepted listener.old) (served.served + served.turned_away)
         (L.accepted listener.new)) }
+    ensures reasons { IfOk result (λ served. HaveReasons (L.setup_failures listener.old) served
+        (L.setup_failures listener.new)) }
     ensures fault { IfErr result (StopsFor (IsSpent port.new) (L.has_failed listener.new)) }
 {
     let Some(running) = start_worker(rt, alloc, SourceWorker { source }, port) else {
@@ -201,6 +206,8 @@ fn serve_with_two<
     ensures counted { IfOk result
         (λ served. IsCounted (L.accepted listener.old) (served.served + served.turned_away)
         (L.accepted listener.new)) }
+    ensures reasons { IfOk result (λ served. HaveReasons (L.setup_failures listener.old) served
+        (L.setup_failures listener.new)) }
     ensures fault { IfErr result (StopsFor (IsSpent port.new) (L.has_failed listener.new)) }
 {
     let (source, other) = sources;
@@ -242,6 +249,8 @@ fn serve_with_three<
     ensures counted { IfOk result
         (λ served. IsCounted (L.accepted listener.old) (served.served + served.turned_away)
         (L.accepted listener.new)) }
+    ensures reasons { IfOk result (λ served. HaveReasons (L.setup_failures listener.old) served
+        (L.setup_failures listener.new)) }
     ensures fault { IfErr result (StopsFor (IsSpent port.new) (L.has_failed listener.new)) }
 {
     let (source, others) = sources;
@@ -297,6 +306,8 @@ pub fn serve_all_journaled<
     ensures counted { IfOk result
         (λ r. IsCounted (L.accepted listener.old) (r.1.served + r.1.turned_away)
         (L.accepted listener.new)) }
+    ensures reasons { IfOk result (λ r. HaveReasons (L.setup_failures listener.old) r.1
+        (L.setup_failures listener.new)) }
     ensures served { IfOk result (λ r. IsServed (port.known.splits + 3) r.0.known.splits r.1) }
     ensures blocks { IfOk result
         (λ r. Acted r.0 (child port.known.number port.known.splits)
@@ -353,7 +364,8 @@ pub fn serve_all_journaled<
 /// declared were passed on, in order: the blocks by the first of these ports, with reads of the
 /// thresholds between them, the moments by the second and the presses by the third. In every case
 /// each further port made the calls of one session with this password. After `Ok` the listener
-/// accepted as many clients as are counted, unless the count reached `u64::MAX`.
+/// accepted as many clients as are counted, unless the count reached `u64::MAX`; and if fewer than
+/// eight were served, those turned away are the ones whose streams could not be set up.
 ///
 /// Returns the first of these faults, and no other. `Memory`: the memory for eight sessions could
 /// not be allocated, or no port, thread or copy of the password was available for a worker or a
@@ -391,6 +403,8 @@ pub fn serve_all<
     ensures counted { IfOk result
         (λ r. IsCounted (L.accepted listener.old) (r.1.served + r.1.turned_away)
         (L.accepted listener.new)) }
+    ensures reasons { IfOk result (λ r. HaveReasons (L.setup_failures listener.old) r.1
+        (L.setup_failures listener.new)) }
     ensures served { IfOk result (λ r. IsServed (port.known.splits + 3) r.0.known.splits r.1) }
     ensures blocks { IfOk result
         (λ r. Acted r.0 (child port.known.number port.known.splits)

@@ -8,10 +8,12 @@ mod accepting;
 mod client_log;
 mod closing;
 mod deadline_stream;
+mod incoming;
 mod limits;
 mod listening;
 
 pub use closing::Closing;
 pub use deadline_stream::DeadlineStream;
+pub use incoming::Stopped;
 pub use limits::StreamLimits;
-pub use listening::{Sockets, Stopped};
+pub use listening::Sockets;

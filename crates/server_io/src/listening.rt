@@ -1,26 +1,17 @@
 //! The sockets to which clients connect.
-ghost use Rattle.std.specs.Prelude.{◌≡◌, false};
-ghost use Rattle.server_io.specs.Clients.{has_failed};
+ghost use Rattle.std.specs.Prelude.{◌≡◌, ◌<◌, ◌+◌, false, Some};
+ghost use Rattle.meter_server.specs.Listening.{setup_failures_in};
+ghost use Rattle.server_io.specs.Clients.{accepted_of, has_failed, is_logged, limits_of};
+ghost use Rattle.server_io.specs.Clients.{setup_failures_of};
 
-use crate::accepting::{AcceptError, meaning_of};
 use crate::client_log::{ClientLog, LoggedClient};
 use crate::deadline_stream::DeadlineStream;
+use crate::incoming::{Incoming, Stopped};
 use crate::limits::StreamLimits;
 use meter_server::{ListenFault, Listener};
-use session_log::LogTime;
 use std::alloc::Global;
 use std::net::{SocketAddr, TcpListener, TcpStream};
-use std::sync::Arc;
-use std::sync::atomic::{AtomicBool, Ordering};
-use std::time::{Clock, Duration};
-use std::{io, thread};
-
-// The pause before another attempt to accept a client or to wake the listener, in milliseconds.
-pub(crate) const ATTEMPT_PAUSE: u64 = 100;
-
-/// Whether the server has ended the listening: its standard input has ended, or its journal has
-/// failed. Then no further client is accepted.
-pub type Stopped = Arc<AtomicBool, Global>;
+use std::time::Clock;
 
 /// A listening socket for clients.
 ///
@@ -32,15 +23,13 @@ pub type Stopped = Arc<AtomicBool, Global>;
 pub struct Sockets<R> {
     rt: R,
     alloc: Global,
-    listener: TcpListener,
+    incoming: Incoming<R>,
     limits: StreamLimits,
-    stopped: Stopped,
     is_verbose: bool,
-    // The number of clients that have connected; it stops at 2^64 - 1.
-    connected: u64,
-    // Whether clients have had to wait since the last one was accepted, because of an error.
-    is_waiting: bool,
-    has_failed: bool,
+    // The number of clients that have connected and whose stream was set up.
+    set_up: u64,
+    // The number of clients that have connected and whose stream could not be set up.
+    setup_failures: u64,
 }
 
 impl<R: Clock + Eprint + Copy> Sockets<R> {
@@ -54,18 +43,20 @@ impl<R: Clock + Eprint + Copy> Sockets<R> {
         stopped: Stopped,
         is_verbose: bool,
     ) -> Sockets<R>
-        ensures { has_failed result ≡ false }
+        ensures unfailed { has_failed result ≡ false }
+        ensures limits { limits_of result ≡ limits }
+        ensures verbose { is_logged result ≡ is_verbose }
+        ensures accepted { accepted_of result ≡ 0 }
+        ensures setup_failures { setup_failures_of result ≡ 0 }
     {
         Sockets {
             rt,
             alloc,
-            listener,
+            incoming: Incoming::new(rt, listener, stopped),
             limits,
-            stopped,
             is_verbose,
-            connected: 0,
-            is_waiting: false,
-            has_failed: false,
+            set_up: 0,
+            setup_failures: 0,
         }
     }
 
@@ -74,54 +65,38 @@ impl<R: Clock + Eprint + Copy> Sockets<R> {
     pub fn has_failed(&self) -> bool
         ensures { result ≡ has_failed self.now }
     {
-        self.has_failed
+        self.incoming.has_failed
     }
 
-    // Waits after an error that passes. The first one since a client was accepted is reported.
-    fn wait_after(&mut self, error: &io::Error) {
-        if !self.is_waiting {
-            let now = LogTime::now(&self.rt);
-            let _ = eprintln!(self.rt; "{now} no client can be accepted, trying again: {error}");
-        }
-        self.is_waiting = true;
-        thread::sleep(&self.rt, Duration::from_millis(ATTEMPT_PAUSE));
-    }
-
-    // Reports that a client was accepted, if clients have had to wait.
-    fn end_waiting(&mut self) {
-        if self.is_waiting {
-            let now = LogTime::now(&self.rt);
-            let _ = eprintln!(self.rt; "{now} clients are accepted again");
-        }
-        self.is_waiting = false;
-    }
-
-    // Fails by a final error, which is reported.
-    fn fail(&mut self, error: &io::Error) {
-        let now = LogTime::now(&self.rt);
-        let _ = eprintln!(self.rt;
-            "{now} listening failed, no further client is accepted: {error}"
-        );
-        self.has_failed = true;
-    }
-
-    // Returns the input and the output of a client that connected. Returns `None` if its stream
-    // could not be set up; the client is closed and reported as turned away.
+    // Returns the input and the output of a client that connected, and counts it. Returns `None` if
+    // its stream could not be set up; the client is closed and reported as turned away.
     fn client(
         &mut self,
         stream: TcpStream,
         address: SocketAddr,
-    ) -> Option<(DeadlineStream<R>, DeadlineStream<R>)> {
-        self.connected = self.connected.saturating_add(1);
+    ) -> Option<(DeadlineStream<R>, DeadlineStream<R>)>
+        requires set_up { self.old.set_up < u64.MAX }
+        requires setup_failures { self.old.setup_failures < u64.MAX }
+        ensures accepted { accepted_of self.new ≡ accepted_of self.old + 1 }
+        ensures setup_failures { setup_failures_of self.new
+            ≡ setup_failures_of self.old + setup_failures_in result }
+    {
         let client = LoggedClient {
-            number: self.connected,
+            number: self
+                .set_up
+                .saturating_add(self.setup_failures)
+                .saturating_add(1),
             address,
         };
         let log = ClientLog::new(self.rt, self.alloc, client, self.is_verbose);
         match DeadlineStream::split_stream(self.rt, stream, self.limits) {
-            Ok((input, output)) => Some((input, output.with_log(log))),
+            Ok((input, output)) => {
+                self.set_up += 1;
+                Some((input, output.with_log(log)))
+            }
             Err(error) => {
                 log.turn_away(&error);
+                self.setup_failures += 1;
                 None
             }
         }
@@ -133,28 +108,16 @@ impl<R: Clock + Eprint + Copy + Drop + Send + 'static> Listener for Sockets<R> {
 
     type Output = DeadlineStream<R>;
 
+    ghost accepted = { λ s. Some (accepted_of s) };
+
+    ghost setup_failures = { λ s. Some (setup_failures_of s) };
+
     fn accept(&mut self) -> Result<Option<(DeadlineStream<R>, DeadlineStream<R>)>, ListenFault> {
-        for _ in 0..u64::MAX {
-            let accepted = self.listener.accept();
-            if self.stopped.load(Ordering::SeqCst) {
-                return Err(ListenFault);
-            }
-            match accepted {
-                Ok((stream, address)) => {
-                    self.end_waiting();
-                    return Ok(self.client(stream, address));
-                }
-                Err(error) => match meaning_of(&error) {
-                    AcceptError::Transient => {}
-                    AcceptError::Passing => self.wait_after(&error),
-                    AcceptError::Final => {
-                        self.fail(&error);
-                        return Err(ListenFault);
-                    }
-                },
-            }
+        if self.set_up == u64::MAX || self.setup_failures == u64::MAX {
+            self.incoming.has_failed = true; // (no further client can be counted)
+            return Err(ListenFault);
         }
-        self.has_failed = true;
-        Err(ListenFault)
+        let (stream, address) = self.incoming.next()?;
+        Ok(self.client(stream, address))
     }
 }

@@ -31,6 +31,9 @@ returns-clause-limit g c = ok_beside c.join_both.ensures _ c.serve_with_one-serv
 pub returns-clause-counted : goal.returns-clause-counted
 returns-clause-counted g c = ok_beside c.join_both.ensures _ c.serve_with_one-served.ensures.counted
 
+pub returns-clause-reasons : goal.returns-clause-reasons
+returns-clause-reasons g c = ok_beside c.join_both.ensures _ c.serve_with_one-served.ensures.reasons
+
 pub returns-clause-fault : goal.returns-clause-fault
 returns-clause-fault g c =
     stops_beside (λ w. g.S.EventSource.can_follow w.source) c.in-Some.running.promise.worker.value
