@@ -10,7 +10,7 @@ use Rattle.server_io.specs.declared.listening.Sockets.{Sockets}
 
 -- whether the listener has failed
 abbrev pub has_failed : {R : Type 0} → Sockets R → Bool
-has_failed s = s.incoming.has_failed
+has_failed s = s.arrivals.has_failed
 
 -- the time limits of its clients
 abbrev pub limits_of : {R : Type 0} → Sockets R → StreamLimits

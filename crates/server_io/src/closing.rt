@@ -1,5 +1,5 @@
 //! The end of a server: it stops accepting connections.
-use crate::incoming::{ATTEMPT_PAUSE, Stopped};
+use crate::arrivals::{ATTEMPT_PAUSE, Stopped};
 use meter_console::{ConsoleEnd, ConsoleObserver};
 use std::net::{Net, SocketAddr, TcpStream};
 use std::sync::atomic::Ordering;

@@ -5,15 +5,15 @@
 #![tactic(auto)]
 
 mod accepting;
+mod arrivals;
 mod client_log;
 mod closing;
 mod deadline_stream;
-mod incoming;
 mod limits;
 mod listening;
 
+pub use arrivals::Stopped;
 pub use closing::Closing;
 pub use deadline_stream::DeadlineStream;
-pub use incoming::Stopped;
 pub use limits::StreamLimits;
 pub use listening::Sockets;

@@ -4,9 +4,9 @@ ghost use Rattle.meter_server.specs.Listening.{setup_failures_in};
 ghost use Rattle.server_io.specs.Clients.{accepted_of, has_failed, is_logged, limits_of};
 ghost use Rattle.server_io.specs.Clients.{setup_failures_of};
 
+use crate::arrivals::{Arrivals, Stopped};
 use crate::client_log::{ClientLog, LoggedClient};
 use crate::deadline_stream::DeadlineStream;
-use crate::incoming::{Incoming, Stopped};
 use crate::limits::StreamLimits;
 use meter_server::{ListenFault, Listener};
 use std::alloc::Global;
@@ -23,7 +23,7 @@ use std::time::Clock;
 pub struct Sockets<R> {
     rt: R,
     alloc: Global,
-    incoming: Incoming<R>,
+    arrivals: Arrivals<R>,
     limits: StreamLimits,
     is_verbose: bool,
     // The number of clients that have connected and whose stream was set up.
@@ -52,7 +52,7 @@ impl<R: Clock + Eprint + Copy> Sockets<R> {
         Sockets {
             rt,
             alloc,
-            incoming: Incoming::new(rt, listener, stopped),
+            arrivals: Arrivals::new(rt, listener, stopped),
             limits,
             is_verbose,
             set_up: 0,
@@ -65,7 +65,7 @@ impl<R: Clock + Eprint + Copy> Sockets<R> {
     pub fn has_failed(&self) -> bool
         ensures { result ≡ has_failed self.now }
     {
-        self.incoming.has_failed
+        self.arrivals.has_failed
     }
 
     // Returns the input and the output of a client that connected, and counts it. Returns `None` if
@@ -114,10 +114,10 @@ impl<R: Clock + Eprint + Copy + Drop + Send + 'static> Listener for Sockets<R> {
 
     fn accept(&mut self) -> Result<Option<(DeadlineStream<R>, DeadlineStream<R>)>, ListenFault> {
         if self.set_up == u64::MAX || self.setup_failures == u64::MAX {
-            self.incoming.has_failed = true; // (no further client can be counted)
+            self.arrivals.has_failed = true; // (no further client can be counted)
             return Err(ListenFault);
         }
-        let (stream, address) = self.incoming.next()?;
+        let (stream, address) = self.arrivals.next()?;
         Ok(self.client(stream, address))
     }
 }

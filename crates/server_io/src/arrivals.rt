@@ -20,7 +20,7 @@ pub type Stopped = Arc<AtomicBool, Global>;
 
 // The connections of a listening socket. After an error that passes, it tries again.
 #[derive(Drop)]
-pub(crate) struct Incoming<R> {
+pub(crate) struct Arrivals<R> {
     rt: R,
     listener: TcpListener,
     stopped: Stopped,
@@ -29,12 +29,12 @@ pub(crate) struct Incoming<R> {
     pub(crate) has_failed: bool,
 }
 
-impl<R: Clock + Eprint + Copy> Incoming<R> {
+impl<R: Clock + Eprint + Copy> Arrivals<R> {
     // Returns the connections of this listener, which has not failed.
-    pub(crate) fn new(rt: R, listener: TcpListener, stopped: Stopped) -> Incoming<R>
+    pub(crate) fn new(rt: R, listener: TcpListener, stopped: Stopped) -> Arrivals<R>
         ensures { result.has_failed ≡ false }
     {
-        Incoming {
+        Arrivals {
             rt,
             listener,
             stopped,
