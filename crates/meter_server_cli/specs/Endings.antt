@@ -2,12 +2,17 @@
 --     end_of_console    the fault of the console
 --     Prints            the text of a trace was printed
 --     PrintsText        a text of this kind was printed
+--     PrintsTrace       the text of the trace of a run was printed
 use Rattle.std.specs.Prelude.{◌≡◌, ℕ, zero, suc, Bool, true, false, Option, Some, None, List, Result, Ok, Err}
 use Rattle.std.specs.Io.KnownBytes.{Appends}
 use Rattle.meter_console.specs.Ends.{has_failed, lost_lines}
 use Rattle.meter_console.specs.declared.running.ConsoleEnd.{ConsoleEnd}
+use Rattle.meter_run.specs.Runs.{IsRunFrom}
+use Rattle.meter_server.specs.declared.serving_all.Served.{Served}
 use Rattle.program.specs.declared.fault.Fault.{Fault}
 use Rattle.program.specs.declared.fault.Fault.TheVariants as fault
+use Rattle.relay_recorder.specs.Recording.{Recording}
+use Rattle.session_io.specs.declared.fault.ServeFault.{ServeFault}
 
 -- the fault of a console that lost this number of lines and may have failed to read; lost lines
 -- take precedence
@@ -33,3 +38,14 @@ pub record PrintsText (IsText : List ℕ → Type 0) (written written' : Option 
   pub text : List ℕ
   pub kind : IsText text
   pub printed : Appends written written' text
+
+-- Whether the text of the trace of a run was printed completely: a run of the meter with this
+-- recorder, whose management client has this password. The ports before `first` are not those of
+-- sources and sessions.
+pub record PrintsTrace (recorder : Recording) (password : List ℕ)
+    (written written' : Option (List ℕ)) : Type 0 where
+  pub first : ℕ
+  pub served : Result Served ServeFault
+  pub prints : PrintsText (IsRunFrom first recorder
+      (record { blocks = None; moments = None; presses = None; password = password }) served)
+      written written'

@@ -14,6 +14,13 @@ pub(crate) struct Listening<R> {
 }
 
 impl<R: Wait + Copy + Drop> Listener for Listening<R> {
+    ghost use Rattle.std.specs.Prelude.{Some};
+    ghost use Rattle.server_io.specs.Clients.{accepted_of, setup_failures_of};
+
+    ghost accepted = { λ s. Some (accepted_of s.sockets) };
+
+    ghost setup_failures = { λ s. Some (setup_failures_of s.sockets) };
+
     type Input = DeadlineStream<HostRuntime>;
 
     type Output = DeadlineStream<HostRuntime>;

@@ -72,7 +72,7 @@ fn main(rt: HostRuntime) -> ExitCode {
         Ok(ServerCommand::Ended(status)) => ExitCode::from(status),
         Ok(ServerCommand::Serve(server)) => exit_code(
             &rt,
-            serving::run(&rt, &rt, server).map(|()| 0),
+            serving::run(&rt, &rt, &mut rt.stdout(), server).map(|()| 0),
         ),
         Err(fault) => exit_code(&rt, Err(fault)),
     }

@@ -2,7 +2,7 @@
 ghost use Rattle.std.specs.Prelude.{◌≡◌, None, OnOk, length};
 ghost use Rattle.acse_ber.specs.Password.{IsPassword};
 ghost use Rattle.meter_run.specs.Runs.{IsRun};
-ghost use Rattle.meter_server_cli.specs.Endings.{PrintsText};
+ghost use Rattle.meter_server_cli.specs.Endings.{PrintsText, PrintsTrace};
 
 use crate::ending::{Ends, print_trace, run_fault};
 use crate::journal::{JournaledParts, ServerEnd, run_journaled};
@@ -23,7 +23,7 @@ use server_files::{EventOutput, RelayAlone, RelayedJournal};
 use server_io::{Closing, Sockets, Stopped, StreamLimits};
 use std::alloc::{AllocError, Global};
 use std::fs::{File, Files};
-use std::io::{BufReader, Stdin, Stdout, Write};
+use std::io::{BufReader, Stdin, Write};
 use std::net::{SocketAddr, TcpListener};
 use std::sync::atomic::AtomicBool;
 use std::sync::{Arc, Wait};
@@ -209,10 +209,11 @@ fn run_on_journal<
     F: DurableFile + Send + 'static,
     S: Clock + Eprint + Files<File = File> + Drop + Send + 'static,
     R: Threads + Wait + Copy + Drop + Send + 'static,
+    W: Write,
 >(
     rt: &HostRuntime,
     threads: &R,
-    output: &mut Stdout,
+    output: &mut W,
     listening: &mut Listening<R>,
     recorder: Recorder,
     parts: JournaledParts<R, RelayedJournal<F, S>>,
@@ -226,6 +227,8 @@ where
     S::Dir: Send + 'static,
     requires unused { length recorder.events ≡ 0 }
     requires unclaimed { F.acts_as_file → ⊥ }
+    ensures printed { OnOk result.2 (PrintsTrace recorder meter.now.password
+        (W.contents output.old) (W.contents output.new)) }
 {
     run_journaled(rt, threads, output, listening, recorder, parts, meter)
 }
@@ -235,10 +238,11 @@ fn run_on_relay<
     F: DurableFile + Send + 'static,
     S: Clock + Eprint + Files<File = File> + Drop + Send + 'static,
     R: Threads + Wait + Copy + Drop + Send + 'static,
+    W: Write,
 >(
     rt: &HostRuntime,
     threads: &R,
-    output: &mut Stdout,
+    output: &mut W,
     listening: &mut Listening<R>,
     recorder: Recorder,
     parts: JournaledParts<R, RelayAlone<F, S>>,
@@ -251,6 +255,8 @@ fn run_on_relay<
 where
     S::Dir: Send + 'static,
     requires unused { length recorder.events ≡ 0 }
+    ensures printed { OnOk result.2 (PrintsTrace recorder meter.now.password
+        (W.contents output.old) (W.contents output.new)) }
 {
     run_journaled(rt, threads, output, listening, recorder, parts, meter)
 }
@@ -261,9 +267,11 @@ where
 fn serve_and_print<
     S: Clock + Eprint + Files<File = File> + Drop + Send + 'static,
     R: Threads + Wait + Copy + Drop + Send + 'static,
+    W: Write,
 >(
     rt: &HostRuntime,
     threads: &R,
+    output: &mut W,
     server: (Listening<R>, ConsoleSources<R>, ServerEnd<R>),
     recorder: Recorder,
     events: EventOutput<S>,
@@ -272,11 +280,11 @@ fn serve_and_print<
 where
     S::Dir: Send + 'static,
     requires { length recorder.events ≡ 0 }
+    ensures printed { OnOk result.2 (PrintsTrace recorder meter.now.password
+        (W.contents output.old) (W.contents output.new)) }
 {
     let (mut accepting, sources, end) = server;
     let listening = &mut accepting;
-    let mut stdout = rt.stdout();
-    let output = &mut stdout;
     let (served, kept, printed) = match events {
         EventOutput::Journal(journal) => {
             let parts = JournaledParts::new(sources, journal, end);
@@ -309,15 +317,18 @@ where
 
 // Serves the clients of a server whose console's thread is running, and prints the trace of the
 // meter at the end.
-fn serve_running<R: Threads + Wait + Copy + Drop + Send + 'static>(
+fn serve_running<R: Threads + Wait + Copy + Drop + Send + 'static, W: Write>(
     rt: &HostRuntime,
     threads: &R,
+    output: &mut W,
     running: Running<R>,
     recorder: Recorder,
     events: EventOutput<HostRuntime>,
     meter: &ClientParameters,
 ) -> Result<(), Fault>
     requires { length recorder.events ≡ 0 }
+    ensures { OnOk result (PrintsTrace recorder meter.now.password
+        (W.contents output.old) (W.contents output.new)) }
 {
     let Running {
         listening,
@@ -326,7 +337,9 @@ fn serve_running<R: Threads + Wait + Copy + Drop + Send + 'static>(
         end,
     } = running;
     let server = (listening, sources, end);
-    let (served, kept, printed) = serve_and_print(rt, threads, server, recorder, events, meter);
+    let (served, kept, printed) = serve_and_print(
+        rt, threads, output, server, recorder, events, meter,
+    );
     // (if there was no fault, the sources have ended, and so has the console)
     let console = if served.is_ok() && kept.is_ok() {
         Some(console.join(threads))
@@ -344,11 +357,15 @@ fn serve_running<R: Threads + Wait + Copy + Drop + Send + 'static>(
 
 // Serves clients in parallel with the lines of the console, and prints the trace of the meter at
 // the end.
-pub(crate) fn run<R: Threads + Wait + Copy + Drop + Send + 'static>(
+pub(crate) fn run<R: Threads + Wait + Copy + Drop + Send + 'static, W: Write>(
     rt: &HostRuntime,
     threads: &R,
+    output: &mut W,
     server: Server,
-) -> Result<(), Fault> {
+) -> Result<(), Fault>
+    ensures { OnOk result (PrintsTrace server.plan.recorder server.plan.password
+        (W.contents output.old) (W.contents output.new)) }
+{
     let Server {
         plan,
         events,
@@ -367,7 +384,7 @@ pub(crate) fn run<R: Threads + Wait + Copy + Drop + Send + 'static>(
                 password,
                 connections: bounds.connections,
             };
-            serve_running(rt, threads, running, recorder, events, &meter)
+            serve_running(rt, threads, output, running, recorder, events, &meter)
         }
         Err(fault) => {
             drop(recorder);
