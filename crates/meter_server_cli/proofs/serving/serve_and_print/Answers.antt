@@ -7,7 +7,7 @@ returns g c = record {
   printed = elim c.match-events.branch [
     | in-Journal w ↦ rw (w.served-is, w.output-is) w.run_on_journal.ensures.printed
     | in-Relay w ↦ rw (w.served-is, w.output-is) w.run_on_relay.ensures.printed
-    | in-None w ↦ rw (w.served-is, w.output-is) (run_printed _ _ _ w.run_and_print-served.result.1 _ _
-        w.run_and_print-served.ensures)
+    | in-None w ↦ rw (w.served-is, w.output-is)
+        (run_printed _ _ _ w.run_and_print-served.result.1 _ _ w.run_and_print-served.ensures)
   ];
 }
