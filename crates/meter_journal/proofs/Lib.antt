@@ -1,3 +1,4 @@
+pub mod FaultLemmas
 pub mod KeepingLemmas
 pub mod ProgressLemmas
 pub mod SavingLemmas

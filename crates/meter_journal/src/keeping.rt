@@ -1,10 +1,11 @@
 //! The loop that saves a journal until it is stopped.
-ghost use Rattle.std.specs.Prelude.{◌≡◌, OnOk};
+ghost use Rattle.std.specs.Prelude.{◌≡◌, ◌≤◌, IfErr, OnOk};
 ghost use Rattle.durable_lines.specs.CrashModel.{LeavesOnly};
 ghost use Rattle.durable_lines.specs.Lines.{lines_in, IsSettled};
 ghost use Rattle.turn_lock.specs.Calls.{Watches};
 ghost use Rattle.turn_lock.specs.Shown.{IsSame};
 ghost use Rattle.shared_meter.specs.Calls.{IsLegal};
+ghost use Rattle.meter_journal.specs.Faults.{FailsFor};
 ghost use Rattle.meter_journal.specs.Saving.{IsAllSaved, IsFileOf, IsSavedFrom};
 
 use crate::fault::JournalFault;
@@ -19,6 +20,7 @@ use turn_lock::Port;
 
 // Saves lines again and again, and announces each number of lines on the disk, until the journal is
 // stopped and a last save has found no further line. The history has no line when it begins.
+// Returns `Ok` only if the journal was asked to stop.
 //
 // Errors: those of a save, after which some of the lines may be lost.
 pub(crate) fn keep_lines<F: DurableFile, L: JournalIdentity, W: Wait>(
@@ -35,6 +37,9 @@ pub(crate) fn keep_lines<F: DurableFile, L: JournalIdentity, W: Wait>(
     ensures same { IsSame port.old port.new }
     ensures identity { F.identity file.new ≡ F.identity file.old }
     ensures watches { Watches IsLegal port.old.known port.new.known }
+    ensures may_end { OnOk result L.may_end }
+    ensures fails { IfErr result
+        (FailsFor (port.new.bound ≤ port.new.known.drawn) (F.has_failed file.new)) }
     ensures settled { OnOk result (F.acts_as_file
         → IsSettled F.seen F.may_leave F.identity F.stored file.new) }
     ensures all_saved { OnOk result (F.acts_as_file

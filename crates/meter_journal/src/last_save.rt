@@ -6,6 +6,7 @@ ghost use Rattle.turn_lock.specs.Shown.{IsSame};
 ghost use Rattle.shared_meter.specs.Calls.{IsLegal};
 ghost use Rattle.shared_meter.specs.Settling.{AreDurable};
 ghost use Rattle.meter_journal.specs.Saving.{IsSynced};
+ghost use Rattle.meter_journal.specs.declared.fault.JournalFault.{JournalFault};
 
 use durable_lines::DurableFile;
 use shared_meter::Kept;
@@ -28,9 +29,15 @@ pub trait JournalIdentity {
     /// Ghost value: the lines that the file had before those of the meter.
     ghost first: { List (List ℕ) };
 
-    /// Ghost predicate: the permission to record that the journal has ended. The worker has it, and
-    /// who starts the worker; a session learns it only from that record.
+    /// Ghost predicate: the journal may be asked to end. Who starts and stops the worker has this
+    /// permission. The worker learns it only by being asked, and a session only from the record
+    /// that the journal has ended.
     ghost may_end: { Type 0 };
+
+    /// Ghost predicate: the journal may fail with this fault. The worker has this permission for
+    /// the faults of a save (`IsSaveFault`), and a session learns it only from the record that the
+    /// journal has failed.
+    ghost may_fail: { JournalFault → Type 0 };
 }
 
 /// The type argument of a call that picks the journal.
@@ -50,6 +57,8 @@ impl JournalIdentity for Brand {
     ghost first = { [] };
 
     ghost may_end = { ⊤ };
+
+    ghost may_fail = { λ _. ⊤ };
 }
 
 // The number of lines that the last save has put on the disk, and a note of the history whose first

@@ -2,14 +2,17 @@
 //! theirs.
 ghost use Rattle.std.specs.Prelude.{◌≡◌, ◌<◌, false, IsTrue, OnOk};
 ghost use Rattle.durable_lines.specs.Lines.{IsSettled};
+ghost use Rattle.meter_journal.specs.Faults.{EndsFor};
 ghost use Rattle.meter_journal.specs.Saving.{IsFileOf, IsStored, IsSynced};
+ghost use Rattle.meter_journal.specs.declared.fault.JournalFault.{JournalFault};
 
+use crate::fault::JournalFault;
 use crate::last_save::{JournalIdentity, LastSave};
 use durable_lines::DurableFile;
 use shared_meter::{Durability, Kept};
 use std::alloc::{AllocError, Global};
 use std::marker::PhantomData;
-use std::sync::atomic::{AtomicBool, AtomicIn, AtomicU64, Ordering, Rule};
+use std::sync::atomic::{AtomicIn, AtomicU64, Ordering, Rule};
 use std::sync::{Arc, Condvar, Mutex, Wait};
 use std::time::Duration;
 use turn_lock::Port;
@@ -33,12 +36,28 @@ impl<F: DurableFile, L: JournalIdentity> Rule for StoredLines<F, L> {
     ghost invariant = { λ n. F.acts_as_file → IsStored F.renews (F.stored L.file) L.first n };
 }
 
-// The rule of the flags that are 1 once the journal has ended: only who may end it sets them. No
+// The rule of the flag that is 1 once the journal was asked to stop: only who may end it asks. No
 // value of it is made.
+struct StopAsked<L>(PhantomData<L>);
+
+impl<L: JournalIdentity> Rule for StopAsked<L> {
+    ghost invariant = { λ n. 0 < n → L.may_end };
+}
+
+// The rule of the flag that is 1 once the journal has failed, with a fault that it may have. No
+// value of it is made.
+struct FailureRecorded<L>(PhantomData<L>);
+
+impl<L: JournalIdentity> Rule for FailureRecorded<L> {
+    ghost invariant = { λ n. 0 < n → (fault : JournalFault) × L.may_fail fault };
+}
+
+// The rule of the flag that is 1 once the journal has ended, for one of the two reasons. No value
+// of it is made.
 struct EndRecorded<L>(PhantomData<L>);
 
 impl<L: JournalIdentity> Rule for EndRecorded<L> {
-    ghost invariant = { λ n. 0 < n → L.may_end };
+    ghost invariant = { λ n. 0 < n → EndsFor L.may_end L.may_fail };
 }
 
 // What the handles of a journal share. Of the two conditions one is changed for sessions that wait
@@ -48,8 +67,8 @@ struct ProgressState<F: DurableFile, L: JournalIdentity> {
     lines: AtomicIn<StoredLines<F, L>>,
     last: Mutex<LastSave<F, L>>,
     has_ended: AtomicIn<EndRecorded<L>>,
-    has_failed: AtomicIn<EndRecorded<L>>,
-    is_stopped: AtomicBool,
+    has_failed: AtomicIn<FailureRecorded<L>>,
+    is_stopped: AtomicIn<StopAsked<L>>,
     requests: AtomicU64,
     wake_at: AtomicU64,
     saved: Condvar,
@@ -60,7 +79,7 @@ impl<F: DurableFile, L: JournalIdentity> ProgressState<F, L> {
     // Waits until this number of lines is on the disk, or the journal has ended. Returns whether
     // the journal has ended.
     fn wait<W: Wait>(&self, rt: &W, lines: u64) -> bool
-        ensures { IsTrue result → L.may_end }
+        ensures { IsTrue result → EndsFor L.may_end L.may_fail }
     {
         for _ in rt.forever() {
             let seen = self.saved.notifications();
@@ -72,6 +91,15 @@ impl<F: DurableFile, L: JournalIdentity> ProgressState<F, L> {
             self.saved.sleep(rt, seen, Duration::from_millis(PATIENCE));
         }
         unreachable!()
+    }
+
+    // Records that no further lines will be on the disk: from now on every wait for more lines
+    // returns false at once.
+    fn end(&self)
+        requires { EndsFor L.may_end L.may_fail }
+    {
+        self.has_ended.store(1, Ordering::SeqCst);
+        self.saved.notify_all();
     }
 
     // Requests a save. Wakes the worker if it waits for no more requests than there are now.
@@ -128,7 +156,7 @@ impl<F: DurableFile, L: JournalIdentity> JournalProgress<F, L> {
             last: Mutex::new(LastSave::new(port, 0)),
             has_ended: AtomicIn::new(0),
             has_failed: AtomicIn::new(0),
-            is_stopped: AtomicBool::new(false),
+            is_stopped: AtomicIn::new(0),
             requests: AtomicU64::new(0),
             wake_at: AtomicU64::new(0),
             saved: Condvar::new(),
@@ -182,34 +210,37 @@ impl<F: DurableFile, L: JournalIdentity> JournalProgress<F, L> {
         }
     }
 
-    // Records that no further lines will be on the disk: from now on every wait for more lines
-    // returns false at once.
+    // Records that the journal has ended as it was asked to, or that its worker was not started.
     pub(crate) fn end(&self)
         requires { L.may_end }
     {
-        self.state.has_ended.store(1, Ordering::SeqCst);
-        self.state.saved.notify_all();
+        self.state.end();
     }
 
-    // Records that the journal has failed and ended.
-    pub(crate) fn fail(&self)
-        requires { L.may_end }
+    // Records that the journal has failed with this fault, and ended.
+    pub(crate) fn fail(&self, fault: JournalFault)
+        requires { L.may_fail fault }
     {
+        let _fault = fault;
         self.state.has_failed.store(1, Ordering::SeqCst);
-        self.end();
+        self.state.end();
     }
 
     /// Asks the worker to save the lines that have been noted, and then to end. Once it has ended,
     /// every wait for more lines than are on the disk returns false at once.
-    pub fn stop(&self) {
-        self.state.is_stopped.store(true, Ordering::SeqCst);
+    pub fn stop(&self)
+        requires { L.may_end }
+    {
+        self.state.is_stopped.store(1, Ordering::SeqCst);
         self.state.requests.fetch_add(1, Ordering::SeqCst);
         self.state.wanted.notify_all();
     }
 
     // Returns whether the worker was asked to end.
-    pub(crate) fn is_stopped(&self) -> bool {
-        self.state.is_stopped.load(Ordering::SeqCst)
+    pub(crate) fn is_stopped(&self) -> bool
+        ensures { IsTrue result → L.may_end }
+    {
+        self.state.is_stopped.load(Ordering::SeqCst) > 0
     }
 
     // Returns the number of requests for a save so far, which wraps.
@@ -229,7 +260,7 @@ impl<F: DurableFile, L: JournalIdentity> Durability for JournalProgress<F, L> {
     ghost is_durable = { λ calls lines. F.acts_as_file
         → IsSynced F.renews (F.stored L.file) L.first calls lines };
 
-    ghost has_ended = { L.may_end };
+    ghost has_ended = { EndsFor L.may_end L.may_fail };
 
     fn wait<W: Wait>(&self, rt: &W, port: &mut Port<Kept>, lines: u64) -> bool {
         // (no effect: the contract needs this law)

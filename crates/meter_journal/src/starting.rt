@@ -20,7 +20,8 @@ pub type JournalThread<F, A, L> = WorkerThread<Kept, JournalWorker<F, A, L>>;
 
 /// Starts a thread for the worker of a journal, with a port split off from this one. Returns `None`
 /// if no memory, port or thread is available; the worker is dropped with its file, the end of the
-/// journal is recorded, and no port is lost.
+/// journal is recorded as if it had been asked to stop, which the caller may do, and no port is
+/// lost.
 pub fn start_journal<
     F: DurableFile + Send + 'static,
     A: FailureAction + 'static,
@@ -63,10 +64,12 @@ pub fn stop_journal<
     progress: &JournalProgress<F, L>,
     port: &mut Port<Kept>,
 ) -> Option<Result<(), CallFault>>
-    requires { running.promise.port.value.lock ≡ port.old.lock }
+    requires lock { running.promise.port.value.lock ≡ port.old.lock }
+    requires may_end { L.may_end }
     ensures { let task = running.promise
         in ReturnsPort (Keeps F.acts_as_file F.identity F.seen F.may_leave F.moment F.left_since
-        F.renews A.has_acted task.worker.value) task.port.value result port.old port.new }
+        F.renews F.has_failed L.may_end A.has_acted task.worker.value)
+        task.port.value result port.old port.new }
 {
     progress.stop();
     join_worker(rt, running, port)

@@ -1,6 +1,7 @@
 //! The worker that writes a journal, in a thread of its own.
 ghost use Rattle.std.specs.Prelude.{◌≡◌, ⊤, IfOk};
 ghost use Rattle.durable_lines.specs.Lines.{IsSettled};
+ghost use Rattle.meter_journal.specs.Faults.{IsSaveFault};
 ghost use Rattle.meter_journal.specs.Saving.{IsFileOf};
 ghost use Rattle.meter_journal.specs.declared.fault.JournalFault.{JournalFault};
 
@@ -30,7 +31,8 @@ pub trait FailureAction: Drop + Send {
 
 /// The worker of a journal: it saves the lines of the meter's events to its file, and announces
 /// them, until the journal is stopped or fails. Its file has whole lines, and all of them are on
-/// the disk. It works through a port of the lock of `L`. Contracts see the file.
+/// the disk. It works through a port of the lock of `L`, and its journal may fail with each fault
+/// of a save. Contracts see the file.
 #[derive(Drop)]
 pub struct JournalWorker<F: DurableFile, A: FailureAction, L: JournalIdentity> {
     file: F,
@@ -46,7 +48,9 @@ impl<F: DurableFile, A: FailureAction, L: JournalIdentity> Model for JournalWork
     ghost view = { λ w. w.file };
 
     ghost invariant = { λ w. IsFileOf F.seen F.identity L.file L.first w.file
-        × (F.acts_as_file → IsSettled F.seen F.may_leave F.identity F.stored w.file) × L.may_end };
+        × (F.acts_as_file → IsSettled F.seen F.may_leave F.identity F.stored w.file)
+        × ((fault : JournalFault) → IsSaveFault F.has_failed F.identity L.file L.lock fault
+        → L.may_fail fault) };
 }
 
 impl<F: DurableFile, A: FailureAction, L: JournalIdentity> JournalWorker<F, A, L> {
@@ -62,7 +66,8 @@ impl<F: DurableFile, A: FailureAction, L: JournalIdentity> JournalWorker<F, A, L
     ) -> Result<JournalWorker<F, A, L>, AllocError>
         requires file { IsFileOf F.seen F.identity L.file L.first file }
         requires settled { F.acts_as_file → IsSettled F.seen F.may_leave F.identity F.stored file }
-        requires may_end { L.may_end }
+        requires may_fail { (fault : JournalFault)
+            → IsSaveFault F.has_failed F.identity L.file L.lock fault → L.may_fail fault }
         ensures { IfOk result (λ worker. worker ≡ file) }
     {
         let mut text = Vec::new(alloc);
@@ -84,9 +89,9 @@ impl<F: DurableFile + Send, A: FailureAction, L: JournalIdentity + Send + Sync> 
 
     ghost did = { λ worker p q end. Keeps F.acts_as_file F.identity F.seen F.may_leave F.moment
         F.left_since
-        F.renews A.has_acted worker p q end };
+        F.renews F.has_failed L.may_end A.has_acted worker p q end };
 
-    /// Saves lines until the journal is stopped. The only error is `Journal`.
+    /// Saves lines until the journal is stopped. The only error is `Journal`, if a save failed.
     fn work<W: Wait>(
         self,
         rt: &W,
@@ -106,7 +111,7 @@ impl<F: DurableFile + Send, A: FailureAction, L: JournalIdentity + Send + Sync> 
                 (port, Ok(()))
             }
             Err(fault) => {
-                progress.fail();
+                progress.fail(fault);
                 on_failure.act(fault);
                 (port, Err(CallFault::Journal))
             }

@@ -1,6 +1,8 @@
 use Rattle.std.proofs.Common.{ℕ, subst, sym}
+use Rattle.std.proofs.lemmas.Result.{err_from_is_err_and}
 use Rattle.durable_lines.specs.Lines.{lines_in}
 use Rattle.meter_journal.specs.Saving.{IsSaved}
+use Rattle.meter_journal.proofs.FaultLemmas.{save_fails}
 use Rattle.meter_journal.proofs.KeepingLemmas.{Run, crashes_on, run_begins, run_on}
 use Rattle.meter_journal.proofs.KeepingLemmas.{synced_lines}
 use Rattle.shared_meter.specs.Handed.{MeterPort}
@@ -22,6 +24,14 @@ returns-in_err-saved-clause-any_moment g c =
     c.args.file.now
     c.saving.file c.save.new.file c.args.port.now c.saving.port c.save.new.port
     c.saving.saved.count c.saving.invariant c.save.ensures.watches c.save.ensures.any_moment
+
+pub returns-in_err-saved-clause-fails : goal.returns-in_err-saved-clause-fails
+returns-in_err-saved-clause-fails g c =
+    let D = g.F.DurableFile in
+    let p = err_from_is_err_and c.from_residual.result c.from_residual.ensures.1 in
+    rw (p.1, p.2) (save_fails _ (D.has_failed c.save.new.file) c.in_err-saved.field-0.0
+    c.save.new.port.bound c.saving.port.bound c.save.new.port.known.drawn
+    c.save.ensures.same.bound c.in_err-saved.ensures.turns c.in_err-saved.ensures.failed)
 
 pub saving-preserved-then-saved-before : goal.saving-preserved-then-saved-before
 saving-preserved-then-saved-before g c =
