@@ -1,11 +1,13 @@
 -- What serving did, the journal's worker and the meter in the lock are a run with a journal.
-use Rattle.std.proofs.Common.{◌≡◌, ℕ, ◌+◌, List, [], ◌∷◌}
+use Rattle.std.proofs.Common.{◌≡◌, ℕ, ◌+◌, ◌≤◌, List, [], ◌∷◌}
 use Rattle.std.proofs.Common.{Option, Some, None}
 use Rattle.std.proofs.Common.{length, Result, Ok, Err, IfOk, OnOk, refl, sym, ap, subst, ◌∙◌, arith, inl, inr}
 use Rattle.durable_lines.specs.CrashModel.{LeavesOnly}
 use Rattle.durable_lines.proofs.Moments.{begin}
 use Rattle.durable_lines.specs.Lines.{lines_in, IsSettled}
+use Rattle.meter_journal.specs.Faults.{FailsFor, HasFileFailed}
 use Rattle.meter_journal.specs.Saving.{IsFileOf, IsSaved, IsSavedFrom, IsSynced, Keeps}
+use Rattle.meter_journal.proofs.FaultLemmas.{fails_as}
 use Rattle.meter_journal.proofs.KeepingLemmas.{saved_none}
 use Rattle.meter_journal.proofs.SavingLemmas.{saved_later}
 use Rattle.meter_run.specs.Journaled.{IsJournaledRun, IsStarted, IsFinished, LeavesFront}
@@ -13,7 +15,7 @@ use Rattle.meter_journal.specs.declared.fault.JournalFault.{JournalFault}
 use Rattle.meter_run.specs.Journaled.{ActsOnFailure, fault_of_journal}
 use Rattle.meter_run.specs.Runs.{Given, IsLeftOpen, ServesAll}
 use Rattle.program.specs.declared.fault.Fault.TheVariants as fault
-use Rattle.std.specs.Prelude.{IsErrOf}
+use Rattle.std.specs.Prelude.{⊤, IsErrOf}
 use Rattle.meter_run.proofs.RunLemmas.{AreSilent, run_of, run_seen, run_sessions}
 use Rattle.meter_server.proofs.JournalLemmas.{answered_later}
 use Rattle.meter_server.proofs.ServingAllLemmas.{acted_on, counted_by, ended_map, joined_on}
@@ -171,9 +173,11 @@ module _ {F : Type 0} (acts : Type 0) (identity : F → ℕ) (seen : F → List 
 module _ {F : Type 0} (acts : Type 0) (identity : F → ℕ) (seen : F → List ℕ)
     (may_leave : F → List ℕ → Type 0) (moment : F → ℕ) (left_since : F → ℕ → List ℕ → Type 0)
     (stored : ℕ → List ℕ → Type 0)
-    (Renews : List ℕ → List ℕ → Type 0) (HasActed : JournalFault → Type 0) (file : F) where
+    (Renews : List ℕ → List ℕ → Type 0) (has_failed : F → Type 0) (MayEnd : Type 0)
+    (HasActed : JournalFault → Type 0) (file : F) where
   abbrev JournalDid : Did
-  JournalDid = Keeps acts identity seen may_leave moment left_since Renews HasActed file
+  JournalDid =
+      Keeps acts identity seen may_leave moment left_since Renews has_failed MayEnd HasActed file
 
   -- this number of lines of a history is on the disk
   abbrev OnDisk : Calls → ℕ → Type 0
@@ -260,8 +264,9 @@ module _ {F : Type 0} (acts : Type 0) (identity : F → ℕ) (seen : F → List 
       → IsStarted (opening_of recorder.core) lent p → ServesAll given p q served
       → AreJournaled (λ calls n. acts → IsSynced Renews (stored number) first calls n)
       (p.known.splits + 3) q
-      → IsFinished (Keeps acts identity seen may_leave moment left_since Renews HasActed its) lent
-      q trace journal → IfOk trace
+      → IsFinished
+      (Keeps acts identity seen may_leave moment left_since Renews has_failed MayEnd HasActed its)
+      lent q trace journal → IfOk trace
       (IsJournaledRun acts identity seen may_leave moment left_since stored Renews file recorder
       given served journal)
   journaled_by number first of_file recorder given served trace journal lent p q its is idle started
@@ -275,22 +280,47 @@ module _ {F : Type 0} (acts : Type 0) (identity : F → ℕ) (seen : F → List 
       journaled_run recorder given served trace journal lent p q idle started serves waited_here
       (subst
       (λ (f : F). IsFinished
-      (Keeps acts identity seen may_leave moment left_since Renews HasActed f) lent q trace
-      journal) is finished)
+      (Keeps acts identity seen may_leave moment left_since Renews has_failed MayEnd HasActed f)
+      lent q trace journal) is finished)
+
+  -- the faults that the journal of this file can have
+  abbrev CanFail : JournalFault → Type 0
+  CanFail = FailsFor ⊤ (HasFileFailed has_failed identity (identity file))
 
   -- the action for failures was called by a worker that failed
   acts_by : (lent back : MeterPort) (end : Option (Result (Unit {0}) CallFault))
-      → EndsWork JournalDid lent back end → ActsOnFailure HasActed (fault_of_journal end)
+      → EndsWork JournalDid lent back end
+      → ActsOnFailure HasActed CanFail (fault_of_journal end)
   acts_by lent back None same = tt
   acts_by lent back (Some (Ok done)) worked = tt
-  acts_by lent back (Some (Err stopped)) worked = worked.acted
+  acts_by lent back (Some (Err stopped)) worked =
+      let Failed : Type 0 = HasFileFailed has_failed identity (identity file) in
+      let acted = worked.acted in (
+        acted.0,
+        acted.1,
+        fails_as (back.bound ≤ back.known.drawn) Failed ⊤ Failed acted.0 (λ drawn. tt)
+            (λ failed. failed) acted.2,
+      )
 
-  pub acts_once_finished : (lent before : MeterPort) (trace : Result (List ℕ) Fault)
+  acts_finished : (lent before : MeterPort) (trace : Result (List ℕ) Fault)
       (journal : Result (Unit {0}) Fault) → IsFinished JournalDid lent before trace journal
-      → ActsOnFailure HasActed journal
-  acts_once_finished lent before trace journal finished =
-      subst (λ (j : Result (Unit {0}) Fault). ActsOnFailure HasActed j) (sym finished.fault)
-      (acts_by lent finished.back.back finished.end finished.back.ended)
+      → ActsOnFailure HasActed CanFail journal
+  acts_finished lent before trace journal finished =
+      subst (λ (j : Result (Unit {0}) Fault). ActsOnFailure HasActed CanFail j)
+      (sym finished.fault) (acts_by lent finished.back.back finished.end finished.back.ended)
+
+  -- and by the worker of an equal file
+  pub acts_once_finished : (lent before : MeterPort) (trace : Result (List ℕ) Fault)
+      (journal : Result (Unit {0}) Fault) (its : F) → its ≡ file
+      → IsFinished
+      (Keeps acts identity seen may_leave moment left_since Renews has_failed MayEnd HasActed its)
+      lent before trace journal → ActsOnFailure HasActed CanFail journal
+  acts_once_finished lent before trace journal its is finished =
+      acts_finished lent before trace journal
+      (subst
+      (λ (f : F). IsFinished
+      (Keeps acts identity seen may_leave moment left_since Renews has_failed MayEnd HasActed f)
+      lent before trace journal) is finished)
 
   -- a run at whose end a turn was still out
   pub left_open_journaled : (recorder : Recording) (given : Given)

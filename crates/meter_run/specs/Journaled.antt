@@ -2,7 +2,7 @@
 --     LeavesFront         the lines that every crash after a run leaves
 --     IsJournaledRun      a run, and what its journal has of its lines
 --     IsStarted           the port of the journal's worker
---     ActsOnFailure       what is done if the journal fails
+--     ActsOnFailure       what is done if the journal fails, and with which fault
 --     fault_of_journal    the fault of a journal
 --     IsFinished          how a run ends
 use Rattle.std.specs.Prelude.{◌≡◌, ℕ, ◌<◌, ◌≤◌, List, [], ◌∷◌, Option, Some, None, Result, Ok, Err}
@@ -65,10 +65,13 @@ pub record IsStarted (origin : Opening) (lent p : MeterPort) : Type 0 where
   pub number : lent.known.number ≡ 0 ∷ []
   pub fresh : calls_by lent.known.number lent.known.seen ≡ []
 
--- whether the action for failures was called, if the journal has failed
-abbrev pub ActsOnFailure : (HasActed : JournalFault → Type 0) → Result (Unit {0}) Fault → Type 0
-ActsOnFailure HasActed (Err fault.Write) = (why : JournalFault) × HasActed why
-ActsOnFailure HasActed _ = ⊤
+-- whether the action for failures was called, if the journal has failed, with a fault that it could
+-- have
+abbrev pub ActsOnFailure : (HasActed CanFail : JournalFault → Type 0) → Result (Unit {0}) Fault
+    → Type 0
+ActsOnFailure HasActed CanFail (Err fault.Write) =
+    (why : JournalFault) × HasActed why × CanFail why
+ActsOnFailure HasActed CanFail _ = ⊤
 
 -- the fault of a journal by the end of its worker, or by its absence
 abbrev pub fault_of_journal : Option (Result (Unit {0}) CallFault) → Result (Unit {0}) Fault

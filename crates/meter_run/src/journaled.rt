@@ -3,10 +3,13 @@ ghost use Rattle.std.specs.Prelude.{◌≡◌, ◌⊎◌, ⊤, ◌+◌, [], Err,
 ghost use Rattle.acse_ber.specs.Password.{IsPassword};
 ghost use Rattle.durable_lines.specs.CrashModel.{LeavesOnly};
 ghost use Rattle.durable_lines.specs.Lines.{lines_in, IsSettled};
+ghost use Rattle.meter_journal.specs.Faults.{FailsFor, HasFileFailed, IsSaveFault};
 ghost use Rattle.meter_journal.specs.Saving.{IsFileOf, IsSavedFrom, Keeps};
+ghost use Rattle.meter_journal.specs.declared.fault.JournalFault.{JournalFault};
 ghost use Rattle.meter_run.specs.Journaled.{IsFinished, IsJournaledRun, IsStarted};
 ghost use Rattle.meter_run.specs.Journaled.{ActsOnFailure, fault_of_journal};
 ghost use Rattle.meter_run.specs.Runs.{IsLeftOpen};
+ghost use Rattle.meter_server.specs.Listening.{HaveReasons};
 ghost use Rattle.meter_server.specs.ServingAll.{IsLimit, StopsFor};
 ghost use Rattle.port_threads.specs.Listening.{IsCounted};
 ghost use Rattle.program.specs.declared.fault.Fault.TheVariants.{Memory, Turns, Write};
@@ -115,6 +118,8 @@ fn start<
     requires lock { meter.1.lock ≡ meter.0 }
     requires same_lock { meter.1.lock ≡ L.lock }
     requires may_end { L.may_end }
+    requires may_fail { (fault : JournalFault)
+        → IsSaveFault F.has_failed F.identity L.file L.lock fault → L.may_fail fault }
     requires file { IsFileOf F.seen F.identity L.file L.first journal.file }
     requires settled { F.acts_as_file
         → IsSettled F.seen F.may_leave F.identity F.stored journal.file }
@@ -182,9 +187,11 @@ fn finish<F: DurableFile + Send, A: FailureAction, L: JournalIdentity + Send + S
 ) -> (Result<Octets, Fault>, Result<(), Fault>)
     requires lock { port.lock ≡ shared }
     requires lent { running.promise.port.value.lock ≡ port.lock }
+    requires may_end { L.may_end }
     ensures finished { let task = running.promise
         in IsFinished (Keeps F.acts_as_file F.identity F.seen F.may_leave F.moment F.left_since
-        F.renews A.has_acted task.worker.value) task.port.value port result.0 result.1 }
+        F.renews F.has_failed L.may_end A.has_acted task.worker.value)
+        task.port.value port result.0 result.1 }
     ensures err { IfErr result.0 (λ fault. (fault ≡ Turns) ⊎ (fault ≡ Memory)) }
     ensures journal { IfErr result.1 (λ fault. (fault ≡ Write) ⊎ (fault ≡ Memory)) }
 {
@@ -229,6 +236,8 @@ fn run_in_lock<
     requires lock { meter.1.lock ≡ meter.0 }
     requires same_lock { meter.1.lock ≡ K.lock }
     requires may_end { K.may_end }
+    requires may_fail { (fault : JournalFault)
+        → IsSaveFault F.has_failed F.identity K.file K.lock fault → K.may_fail fault }
     requires file { IsFileOf F.seen F.identity K.file K.first journal.file }
     requires settled { F.acts_as_file
         → IsSettled F.seen F.may_leave F.identity F.stored journal.file }
@@ -246,6 +255,8 @@ fn run_in_lock<
     ensures limit { IfOk result.served (IsLimit terms.now.limit) }
     ensures counted { IfOk result.served (λ served. IsCounted (L.accepted listener.old)
         (served.served + served.turned_away) (L.accepted listener.new)) }
+    ensures reasons { IfOk result.served (λ served. HaveReasons (L.setup_failures listener.old)
+        served (L.setup_failures listener.new)) }
     ensures fault { IfErr result.served (StopsFor ⊤ (L.has_failed listener.new)) }
     ensures err { IfErr result.trace (λ fault. (fault ≡ Turns) ⊎ (fault ≡ Memory)) }
     ensures still_out { (recorder : Recording)
@@ -259,7 +270,9 @@ fn run_in_lock<
         })
         result.served }
     ensures journal { IfErr result.journal (λ fault. (fault ≡ Write) ⊎ (fault ≡ Memory)) }
-    ensures acted { ActsOnFailure A.has_acted result.journal }
+    ensures acted { ActsOnFailure A.has_acted
+        (FailsFor ⊤ (HasFileFailed F.has_failed F.identity (F.identity journal.file)))
+        result.journal }
 {
     // (no effect: the contract needs this law)
     file_is_idle(&journal.file);
@@ -295,8 +308,8 @@ fn run_in_lock<
 /// then writes the lines that are left to the journal and the text of the meter's trace.
 ///
 /// An answer is written only after the lines of all calls that its session has seen are on the
-/// disk. If the journal fails, `on_failure` is called, and no event is answered any more whose line
-/// is not on the disk.
+/// disk. If the journal fails, `on_failure` is called, with the fault `Failed` only if the file has
+/// failed, and no event is answered any more whose line is not on the disk.
 ///
 /// The three results are independent: the trace is written whatever ended the serving and the
 /// journal. If the result of the journal is `Ok`, every crash after the run leaves the same lines.
@@ -336,6 +349,8 @@ pub fn run_journaled_meter<
     ensures limit { IfOk result.served (IsLimit terms.now.limit) }
     ensures counted { IfOk result.served (λ served. IsCounted (L.accepted listener.old)
         (served.served + served.turned_away) (L.accepted listener.new)) }
+    ensures reasons { IfOk result.served (λ served. HaveReasons (L.setup_failures listener.old)
+        served (L.setup_failures listener.new)) }
     ensures fault { IfErr result.served (StopsFor ⊤ (L.has_failed listener.new)) }
     ensures err { IfErr result.trace (λ fault. (fault ≡ Turns) ⊎ (fault ≡ Memory)) }
     ensures still_out { IsErrOf result.trace Turns → IsLeftOpen 1 recorder
@@ -347,7 +362,9 @@ pub fn run_journaled_meter<
         })
         result.served }
     ensures journal { IfErr result.journal (λ fault. (fault ≡ Write) ⊎ (fault ≡ Memory)) }
-    ensures acted { ActsOnFailure A.has_acted result.journal }
+    ensures acted { ActsOnFailure A.has_acted
+        (FailsFor ⊤ (HasFileFailed F.has_failed F.identity (F.identity journal.file)))
+        result.journal }
 {
     match lock_journaled(alloc, recorder) {
         Ok(meter) => run_in_lock::<L, B, M, U, F, A, Brand, R>(

@@ -5,6 +5,7 @@ ghost use Rattle.acse_ber.specs.Password.{IsPassword};
 ghost use Rattle.meter_run.specs.Closing.{FindsTurn};
 ghost use Rattle.meter_run.specs.Runs.{IsLeftOpen, IsRun, ServesAll, Traces};
 ghost use Rattle.meter_server.specs.JournaledSessions.{AreJournaled};
+ghost use Rattle.meter_server.specs.Listening.{HaveReasons};
 ghost use Rattle.meter_server.specs.ServingAll.{IsLimit, StopsFor};
 ghost use Rattle.shared_meter.specs.Calls.{Stands};
 ghost use Rattle.relay_core.specs.Opening.{opening_of};
@@ -88,6 +89,8 @@ pub(crate) fn serve<
     ensures limit { IfOk result.1 (IsLimit terms.now.limit) }
     ensures counted { IfOk result.1 (λ served. IsCounted (L.accepted listener.old)
         (served.served + served.turned_away) (L.accepted listener.new)) }
+    ensures reasons { IfOk result.1 (λ served. HaveReasons (L.setup_failures listener.old) served
+        (L.setup_failures listener.new)) }
     ensures fault { IfErr result.1 (StopsFor ⊤ (L.has_failed listener.new)) }
 {
     match serve_all_journaled(rt, alloc, listener, sources, port, terms) {
@@ -142,8 +145,9 @@ pub(crate) fn close_and_export(
 /// turn was still out then.
 ///
 /// If the serving ended without a fault, the listener accepted as many clients as are counted,
-/// unless the count reached `u64::MAX`. The fault `Listen` means that the listener failed; the
-/// serving never ends with `Read` or `Write`.
+/// unless the count reached `u64::MAX`; and if fewer than eight were served, those turned away are
+/// the ones whose streams could not be set up. The fault `Listen` means that the listener failed;
+/// the serving never ends with `Read` or `Write`.
 pub fn run_meter<
     L: Listener,
     B: BlockSource + Send + 'static,
@@ -172,6 +176,8 @@ pub fn run_meter<
     ensures limit { IfOk result.served (IsLimit limit) }
     ensures counted { IfOk result.served (λ served. IsCounted (L.accepted listener.old)
         (served.served + served.turned_away) (L.accepted listener.new)) }
+    ensures reasons { IfOk result.served (λ served. HaveReasons (L.setup_failures listener.old)
+        served (L.setup_failures listener.new)) }
     ensures fault { IfErr result.served (StopsFor ⊤ (L.has_failed listener.new)) }
     ensures err { IfErr result.trace (λ fault. (fault ≡ Turns) ⊎ (fault ≡ Memory)) }
     ensures still_out { IsErrOf result.trace Turns → IsLeftOpen 0 recorder

@@ -17,8 +17,8 @@ returns-clause-run g c = λ recorder known.
     let D = g.F.DurableFile in
     let started = c.in-Some.started in
     journaled_by D.acts_as_file D.identity D.seen D.may_leave D.moment D.left_since D.stored
-    D.renews g.A.FailureAction.has_acted c.args.journal.file g.K.JournalIdentity.file
-    g.K.JournalIdentity.first
+    D.renews D.has_failed g.K.JournalIdentity.may_end g.A.FailureAction.has_acted
+    c.args.journal.file g.K.JournalIdentity.file g.K.JournalIdentity.first
     c.requires.file recorder (record {
       blocks = g.B.BlockSource.forecast c.args.sources.blocks;
       moments = g.M.MomentSource.forecast c.args.sources.moments;
@@ -35,8 +35,10 @@ returns-clause-acted g c =
     let D = g.F.DurableFile in
     let task = c.in-Some.started.running.promise in
     acts_once_finished D.acts_as_file D.identity D.seen D.may_leave D.moment D.left_since D.stored
-    D.renews g.A.FailureAction.has_acted task.worker.value task.port.value c.serve-port.result.0
-    c.finish-trace.result.0 c.finish-trace.result.1 c.finish-trace.ensures.finished
+    D.renews D.has_failed g.K.JournalIdentity.may_end g.A.FailureAction.has_acted
+    c.args.journal.file task.port.value c.serve-port.result.0 c.finish-trace.result.0
+    c.finish-trace.result.1 task.worker.value c.in-Some.ensures.file
+    c.finish-trace.ensures.finished
 
 pub returns-clause-still_out : goal.returns-clause-still_out
 returns-clause-still_out g c = λ recorder known busy.
@@ -44,7 +46,8 @@ returns-clause-still_out g c = λ recorder known busy.
     let started = c.in-Some.started in
     let task = started.running.promise in
     left_open_journaled D.acts_as_file D.identity D.seen D.may_leave D.moment D.left_since D.stored
-    D.renews g.A.FailureAction.has_acted task.worker.value recorder (record {
+    D.renews D.has_failed g.K.JournalIdentity.may_end g.A.FailureAction.has_acted
+    task.worker.value recorder (record {
       blocks = g.B.BlockSource.forecast c.args.sources.blocks;
       moments = g.M.MomentSource.forecast c.args.sources.moments;
       presses = g.U.ButtonSource.forecast c.args.sources.buttons;

@@ -1,12 +1,16 @@
--- The lock of the run, and its file.
+-- The lock of the run, its file and the faults of a save. The run may stop its journal at any time.
 use Rattle.std.specs.Prelude.{⊤}
 use Rattle.durable_lines.specs.Lines.{lines_in}
+use Rattle.meter_journal.specs.Faults.{IsSaveFault}
 use Rattle.meter_run.proofs.journaled.run_journaled_meter.Given as goal
 
 abbrev pub ghosts-run_in_lock : goal.ghosts-run_in_lock
-ghosts-run_in_lock g a = record {
-  lock = a.meter.1.lock;
-  file = g.F.DurableFile.identity a.journal.file;
-  first = lines_in (g.F.DurableFile.seen a.journal.file);
-  may_end = ⊤;
-}
+ghosts-run_in_lock g a =
+    let D = g.F.DurableFile in
+    record {
+      lock = a.meter.1.lock;
+      file = D.identity a.journal.file;
+      first = lines_in (D.seen a.journal.file);
+      may_end = ⊤;
+      may_fail = IsSaveFault D.has_failed D.identity (D.identity a.journal.file) a.meter.1.lock;
+    }
