@@ -1,7 +1,9 @@
 //! Ports that settle: they wait until the lines of all calls that they have seen are on the disk.
 ghost use Rattle.std.specs.Prelude.{◌≡◌};
 ghost use Rattle.durable_lines.specs.Lines.{IsSettled};
+ghost use Rattle.meter_journal.specs.Faults.{IsSaveFault};
 ghost use Rattle.meter_journal.specs.Saving.{IsFileOf};
+ghost use Rattle.meter_journal.specs.declared.fault.JournalFault.{JournalFault};
 
 use crate::fronts::{FIRST, first_file};
 use crate::meters::asked_port;
@@ -46,6 +48,9 @@ fn settle_port<L: JournalIdentity + Send + Sync, W: Wait>(
         in IsFileOf D.seen D.identity L.file L.first file }
     requires same_lock { (port.lock ≡ L.lock) × (other.lock ≡ L.lock) }
     requires may_end { L.may_end }
+    requires may_fail { let D = ⟦<MemoryFile as DurableFile>⟧
+        in (fault : JournalFault) → IsSaveFault D.has_failed D.identity L.file L.lock fault
+        → L.may_fail fault }
 {
     let (ran, _end) = run_journal::<L, W>(rt, alloc, file, other);
     let Some((progress, other)) = ran else {

@@ -1,7 +1,9 @@
 //! What a session learns that waits for lines of a journal.
 ghost use Rattle.std.specs.Prelude.{◌≡◌, IfSome};
 ghost use Rattle.durable_lines.specs.Lines.{IsSettled};
+ghost use Rattle.meter_journal.specs.Faults.{IsSaveFault};
 ghost use Rattle.meter_journal.specs.Saving.{IsFileOf};
+ghost use Rattle.meter_journal.specs.declared.fault.JournalFault.{JournalFault};
 
 use crate::fronts::{FIRST, first_file};
 use crate::meters::asked_port;
@@ -40,6 +42,9 @@ pub(crate) fn run_journal<L: JournalIdentity + Send + Sync, W: Wait>(
         in IsFileOf D.seen D.identity L.file L.first file }
     requires same_lock { port.lock ≡ L.lock }
     requires may_end { L.may_end }
+    requires may_fail { let D = ⟦<MemoryFile as DurableFile>⟧
+        in (fault : JournalFault) → IsSaveFault D.has_failed D.identity L.file L.lock fault
+        → L.may_fail fault }
     ensures { IfSome result.0 (λ r. r.1.lock ≡ L.lock) }
 {
     let Ok(progress) = JournalProgress::<MemoryFile, L>::new(alloc, &mut port, &file) else {
@@ -87,6 +92,9 @@ fn waits_after<L: JournalIdentity + Send + Sync, W: Wait>(
         in IsFileOf D.seen D.identity L.file L.first file }
     requires same_lock { port.lock ≡ L.lock }
     requires may_end { L.may_end }
+    requires may_fail { let D = ⟦<MemoryFile as DurableFile>⟧
+        in (fault : JournalFault) → IsSaveFault D.has_failed D.identity L.file L.lock fault
+        → L.may_fail fault }
 {
     let (ran, end) = run_journal::<L, W>(rt, alloc, file, port);
     let Some((progress, mut port)) = ran else {

@@ -10,4 +10,5 @@ ghosts-waits_after g a = record {
   file = 0;
   first = lines_in (bytes_of a.file);
   may_end = ⊤;
+  may_fail = λ _. ⊤;
 }
