@@ -63,6 +63,20 @@ same_ids (j ∷ jobs) (l ∷ lines) same (suc i) job line below = same_ids jobs 
     (let tails : map (λ (l : ReportLine). l.id) lines ≡ map (λ (j : Job). j.id) jobs = cc in tails)
     i job line (omega arith)
 
+-- lines with the same name at each index have the same names
+pub same_names : (old new : List ReportLine) → length new ≡ length old
+    → ((i : ℕ) (line : ReportLine) → i < length old
+    → (slice_index_or new i line).id ≡ (slice_index_or old i line).id)
+    → map (λ (l : ReportLine). l.id) new ≡ map (λ (l : ReportLine). l.id) old
+same_names [] [] same each = refl
+same_names [] (n ∷ new) same each = absurd (omega arith)
+same_names (o ∷ old) [] same each = absurd (omega arith)
+same_names (o ∷ old) (n ∷ new) same each =
+    let first : n.id ≡ o.id = each 0 o (omega arith) in
+    let others = same_names old new (omega arith)
+    (λ i line below. each (suc i) line (omega arith)) in
+    cc
+
 -- the lines of a campaign are correct
 pub campaign_lines : (tells : List ℕ → Option Forecast) (turns workers : ℕ) (jobs : List Job)
     (blank lines : List ReportLine) (slots : List Row)

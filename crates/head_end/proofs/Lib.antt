@@ -5,6 +5,7 @@ mod Turning
 pub mod JobOutcomes
 mod Places
 mod CampaignLemmas
+mod ReportLemmas
 mod RoundLemmas
 mod ReadingLemmas
 mod PasswordLemmas

@@ -93,6 +93,8 @@ pub fn run_watched_campaign<R: Threads + Sync, C: Connector, W: Watcher>(
     ensures tried { IfOk result (λ lines. AreTriedWith (turns_for (length jobs.now) workers)
         workers jobs.now passwords.now lines
         (map (λ place. place.attempt.stage) places.new)) }
+    ensures names { IfOk result (λ lines. map (λ line. line.id) lines
+        ≡ map (λ job. job.id) jobs.now) }
     ensures unchanged_on_error { OnErr result (places.new ≡ places.old) }
 {
     let workers = usize::from(workers);
@@ -151,6 +153,8 @@ impl<'a, W: Watcher> Campaign<'a, W> {
             → AreLines tells self.now.jobs.now lines.new }
         ensures tried { AreTriedWith self.now.turns self.now.workers self.now.jobs.now
             self.now.passwords.now lines.new (map (λ place. place.attempt.stage) places.new) }
+        ensures names { map (λ line. line.id) lines.new
+            ≡ map (λ job. job.id) self.now.jobs.now }
         ensures len { length lines.new ≡ length lines.old }
     {
         self.work(rt, alloc, places);

@@ -21,3 +21,11 @@ returns-clause-tried g c =
     (length c.args.jobs.now) c.args.workers = search rules in
     let workers : c.from-workers.result ≡ c.args.workers = search rules in
     rw whole (rw (c.as_slice-3.ensures.jobs, turns, workers) at c.fill.ensures.tried)
+
+pub returns-clause-names : goal.returns-clause-names
+returns-clause-names g c =
+    let long : c.in_ok-lines.lines.len ≡ length c.fill.new.lines = omega
+    (arith, c.fill.ensures.len, c.as_mut_slice.ensures.len) in
+    let whole : c.from_vec.result ≡ c.fill.new.lines = c.from_vec.ensures
+    ∙ written c.in_ok-lines.lines.len c.fill.new.lines _ long in
+    rw whole (rw c.as_slice-3.ensures.jobs at c.fill.ensures.names)

@@ -1,5 +1,6 @@
-use Rattle.std.proofs.Common.{arith}
-use Rattle.head_end.proofs.CampaignLemmas.{campaign_lines, same_length, row_at, are_tried}
+use Rattle.std.proofs.Common.{arith, ◌∙◌}
+use Rattle.head_end.proofs.CampaignLemmas.{campaign_lines, same_length, same_names, row_at}
+use Rattle.head_end.proofs.CampaignLemmas.{are_tried}
 use Rattle.head_end.proofs.campaign.Campaign.fill.Goals as goal
 
 pub gather-requires-clause-within_max : goal.gather-requires-clause-within_max
@@ -40,3 +41,8 @@ returns-clause-tried g c =
       ids = λ i line below. c.gather.ensures.ids i line below;
       len = c.gather.ensures.len;
     })
+
+pub returns-clause-names : goal.returns-clause-names
+returns-clause-names g c =
+    same_names c.args.lines.now c.gather.new.lines c.gather.ensures.len
+    (λ i line below. c.gather.ensures.ids i line below) ∙ c.requires.names
