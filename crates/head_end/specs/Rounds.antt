@@ -1,12 +1,13 @@
 -- The rounds of a campaign: jobs of one address run one after the other, in the order of the list.
 --     round_of          the round of a job: the number of earlier jobs with its address
 --     AreRounds         the rounds of all jobs
+--     HaveJobs          no round is without a job
 --     RunInOrder        of two jobs of one address the earlier one has the earlier round
 --     IsRoundRun        the effect of a round on a slot
 --     IsRunUpTo         the state of a slot after some rounds
 use Rattle.std.specs.Prelude.{◌≡◌, ◌<◌, ◌≤◌, ℕ, if◌then◌else◌, List, length, take, slice_index_or}
 use Rattle.std.specs.Prelude.{bytes_eq, Option}
-use Rattle.std.specs.List.{sum_by}
+use Rattle.std.specs.List.{sum_by, Contains}
 use Rattle.client_core.specs.declared.job.Job.{Job}
 use Rattle.head_end.specs.declared.row.Row.{Row}
 use Rattle.head_end.specs.Attempts.{State, unused}
@@ -31,6 +32,10 @@ pub record AreRounds (jobs : List Job) (rounds : List ℕ) (count : ℕ) : Type 
   pub each : (i : ℕ) (job : Job) → i < length jobs
       → slice_index_or rounds i 0 ≡ round_of jobs i (slice_index_or jobs i job).address
   pub below : (i : ℕ) → i < length jobs → slice_index_or rounds i 0 < count
+
+-- whether each round below `count` is that of a job
+abbrev pub HaveJobs : List ℕ → ℕ → Type 0
+HaveJobs rounds count = (round : ℕ) → round < count → Contains rounds round
 
 -- of two jobs of one address the earlier one has the earlier round: a round has no address twice
 abbrev pub RunInOrder : Type 0

@@ -1,7 +1,7 @@
 //! The rounds of a campaign: the jobs of one meter run one after the other, in the order of the
 //! list.
 ghost use Rattle.std.specs.Prelude.{◌≡◌, ◌≤◌, IfOk, length};
-ghost use Rattle.head_end.specs.Rounds.{count_at, AreRounds, RunInOrder};
+ghost use Rattle.head_end.specs.Rounds.{count_at, AreRounds, HaveJobs, RunInOrder};
 
 use client_core::Job;
 use std::alloc::{AllocError, Global};
@@ -12,14 +12,16 @@ use wire_bytes::Listed;
 pub struct JobRounds {
     /// The round of each job, counted from 0: the number of earlier jobs with its address.
     pub of_jobs: Listed<usize>,
-    /// The number of rounds.
+    /// The number of rounds, each of which has a job.
     pub count: usize,
 }
 
-/// Returns the rounds of jobs. Jobs of different addresses have one round.
+/// Returns the rounds of jobs, each of which has a job: there are as many as the address that
+/// occurs most often has jobs. Errors: out of memory.
 pub fn rounds_of(alloc: Global, jobs: &[Job]) -> Result<JobRounds, AllocError>
     requires { length jobs.now ≤ 1000 }
-    ensures { IfOk result (λ rounds. AreRounds jobs.now rounds.of_jobs rounds.count) }
+    ensures rounds { IfOk result (λ rounds. AreRounds jobs.now rounds.of_jobs rounds.count) }
+    ensures used { IfOk result (λ rounds. HaveJobs rounds.of_jobs rounds.count) }
 {
     let mut of_jobs = Listed::new(alloc);
     let mut count = 0;
