@@ -1,5 +1,6 @@
 -- What follows for the whole input from a text that was read, or from a fault.
-use Rattle.std.proofs.Common.{◌≡◌, ◌<◌, ◌∙◌, ℕ, List, [], length, Option, Some, None, Err, IsErr, inl, inr, refl, sym, ap, arith}
+use Rattle.std.proofs.Common.{◌≡◌, ◌<◌, ◌∙◌, ℕ, true, List, [], length, Option, Some, None, Err}
+use Rattle.std.proofs.Common.{IsErr, inl, inr, refl, sym, ap, arith}
 use Rattle.std.specs.Io.KnownBytes.{Consumes, IsAtEnd}
 use Rattle.std.proofs.KnownBytes.{Consumes-all}
 use Rattle.std.proofs.lemmas.List.{length-append}
@@ -9,6 +10,7 @@ use Rattle.counted_io.specs.declared.fault.InputFault.TheVariants as input
 use Rattle.head_end.specs.Jobs.{ReadsJobs, jobs_of}
 use Rattle.head_end.specs.declared.fault.JobsFault.{JobsFault}
 use Rattle.head_end.specs.declared.fault.JobsFault.TheVariants as jobs
+use Rattle.program.specs.Passwords.{is_of_files}
 use Rattle.program.specs.declared.fault.Fault.TheVariants as program
 use Rattle.head_end_commands.specs.Faults.{input_fault, jobs_fault}
 use Rattle.head_end_commands.specs.Lists.{HasNoList, IsTextOf}
@@ -48,3 +50,14 @@ no_list None text fault of reads is = tt
 no_list (Some whole) text (jobs.Line number) of reads is = inr (no_jobs whole text _ of reads)
 no_list (Some whole) text jobs.TooMany of reads is = inr (no_jobs whole text _ of reads)
 no_list (Some whole) text jobs.Memory of reads is = absurd cc
+
+-- the faults of an input and of a list
+pub input_kind : (fault : InputFault) → is_of_files (input_fault fault) ≡ true
+input_kind input.TooLong = refl
+input_kind input.Read = refl
+input_kind input.Memory = refl
+
+pub jobs_kind : (fault : JobsFault) → is_of_files (jobs_fault fault) ≡ true
+jobs_kind (jobs.Line number) = refl
+jobs_kind jobs.TooMany = refl
+jobs_kind jobs.Memory = refl

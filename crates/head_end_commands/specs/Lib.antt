@@ -5,3 +5,4 @@ pub mod Faults
 pub mod Lists
 pub mod Options
 pub mod Passwords
+pub mod PlanFaults

@@ -1,5 +1,6 @@
 //! `check`, and the list of jobs on standard input.
-ghost use Rattle.std.specs.Prelude.{◌≡◌, IfErr, IfOk, OnOk};
+ghost use Rattle.std.specs.Prelude.{◌≡◌, true, IfErr, IfOk, OnOk};
+ghost use Rattle.program.specs.Passwords.{is_of_files};
 ghost use Rattle.head_end_commands.specs.Counted.{PrintsCount};
 ghost use Rattle.head_end_commands.specs.Faults.{jobs_fault};
 ghost use Rattle.head_end_commands.specs.Lists.{AreJobsOf, HasNoList, IsTextOf};
@@ -17,10 +18,11 @@ const MAX_INPUT: usize = 1_048_576;
 
 // Reads the whole text of an input. On an error, if `is_verbose`, writes a line on standard error
 // that says where and why.
-#[tactic(auto, using(crate::proofs::Inputs::whole_text, crate::proofs::Inputs::too_long))]
+#[tactic(auto, using(crate::proofs::Inputs::whole_text, crate::proofs::Inputs::too_long, crate::proofs::Inputs::input_kind))]
 fn text_of<I: Read + Drop>(rt: &HostRuntime, input: I, is_verbose: bool) -> Result<Vec<u8>, Fault>
     ensures text { IfOk result (λ text. IsTextOf (I.remaining input) text.items) }
     ensures err { IfErr result (λ fault. fault ≡ Fault.Input → HasNoList (I.remaining input)) }
+    ensures kind { IfErr result (λ fault. is_of_files fault ≡ true) }
 {
     let mut reader = Counted::new(input);
     match read_to_end_within(rt.alloc(), &mut reader, MAX_INPUT) {
@@ -45,8 +47,9 @@ fn report_list_fault(rt: &HostRuntime, text: &[u8], fault: JobsFault, is_verbose
     jobs_fault(fault)
 }
 
-// Reads the jobs of the list in an input, and writes the warnings about them.
-#[tactic(auto, using(crate::proofs::Inputs::no_list))]
+// Reads the jobs of the list in an input, and writes the warnings about them. Errors: `Input` if it
+// is no list of jobs, `Read`, `Memory`.
+#[tactic(auto, using(crate::proofs::Inputs::no_list, crate::proofs::Inputs::jobs_kind))]
 pub(crate) fn load_jobs<I: Read + Drop>(
     rt: &HostRuntime,
     input: I,
@@ -54,6 +57,7 @@ pub(crate) fn load_jobs<I: Read + Drop>(
 ) -> Result<Jobs, Fault>
     ensures jobs { IfOk result (AreJobsOf (I.remaining input)) }
     ensures err { IfErr result (λ fault. fault ≡ Fault.Input → HasNoList (I.remaining input)) }
+    ensures kind { IfErr result (λ fault. is_of_files fault ≡ true) }
 {
     let text = text_of(rt, input, is_verbose)?;
     match read_jobs(rt.alloc(), text.as_slice()) {

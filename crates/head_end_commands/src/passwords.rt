@@ -1,13 +1,17 @@
 //! The passwords of the jobs of `run` and `ask`: those of the file of `--passwords`, and the common
 //! one.
-ghost use Rattle.std.specs.Prelude.{◌≡◌, [], None, IfOk, IfSome, codes, length};
+ghost use Rattle.std.specs.Prelude.{◌≡◌, [], None, true, IfOk, IfErr, IfSome, IsNone, IsOkAnd};
+ghost use Rattle.std.specs.Prelude.{codes, length};
 ghost use Rattle.std.specs.List.{All};
 ghost use Rattle.std.specs.Option.{option_copied};
 ghost use Rattle.acse_ber.specs.Password.{IsPassword};
 ghost use Rattle.clap.specs.Matches.{first_value, found_of};
 ghost use Rattle.head_end.specs.JobPasswords.{HavePasswords};
 ghost use Rattle.head_end.specs.Jobs.{job_lines};
+ghost use Rattle.program.specs.Passwords.{is_of_files};
+ghost use Rattle.head_end_commands.specs.Faults.{list_fault, passwords_fault};
 ghost use Rattle.head_end_commands.specs.Passwords.{ArePasswords};
+ghost use Rattle.head_end_commands.specs.PlanFaults.{IsJobsFault, IsTextFault};
 
 use crate::messages::{LineFault, why_no_password};
 use crate::text_filter::TextFilter;
@@ -41,6 +45,8 @@ enum PasswordListFault {
 
 // Returns the program's fault.
 impl From<PasswordListFault> for Fault {
+    ghost from_gives = { λ fault program. program ≡ list_fault fault };
+
     fn from(fault: PasswordListFault) -> Fault {
         match fault {
             PasswordListFault::File(fault) => Fault::from(fault),
@@ -90,15 +96,19 @@ fn read_own_file(rt: &HostRuntime, path: &str) -> Result<Vec<u8>, PasswordListFa
 
 // Writes a line on standard error about the file of `--passwords`, and returns the program's
 // fault.
-fn report_list_fault(rt: &HostRuntime, path: &str, fault: PasswordListFault) -> Fault {
+fn report_list_fault(rt: &HostRuntime, path: &str, fault: PasswordListFault) -> Fault
+    ensures { result ≡ list_fault fault }
+{
     let _ = eprintln!(rt; "{path}: {fault}");
     Fault::from(fault)
 }
 
 // Returns the text of the file of `--passwords`, or an empty text without that option.
+#[tactic(auto, using(crate::proofs::Plans::list_kind))]
 fn read_list(rt: &HostRuntime, matches: &ArgMatches<'_>) -> Result<Vec<u8>, Fault>
-    ensures { first_value (found_of matches.now) (codes "passwords") ≡ None
-        → IfOk result (λ text. text.items ≡ []) }
+    ensures no_file { first_value (found_of matches.now) (codes "passwords") ≡ None
+        → IsOkAnd result (λ text. text.items ≡ []) }
+    ensures err { IfErr result (λ fault. is_of_files fault ≡ true) }
 {
     let Some(path) = matches.get_str("passwords") else {
         return Ok(Vec::new(rt.alloc()));
@@ -109,8 +119,14 @@ fn read_list(rt: &HostRuntime, matches: &ArgMatches<'_>) -> Result<Vec<u8>, Faul
     }
 }
 
-// Returns the first line of a list of passwords whose name an earlier line has, and that line.
-fn find_double(text: &[u8]) -> Option<PasswordListFault> {
+// Returns the number of the first line of a list of passwords whose name an earlier line has, and
+// the number of that line. An empty text has no such line.
+fn find_double(text: &[u8]) -> Option<(u64, u64)>
+    ensures { text.now ≡ [] → IsNone result }
+{
+    if text.is_empty() {
+        return None;
+    }
     let mut number: u64 = 0;
     let mut names = TextFilter::new();
     for line in text.split(|byte| *byte == b'\n') {
@@ -119,7 +135,7 @@ fn find_double(text: &[u8]) -> Option<PasswordListFault> {
             if names.may_have(name) {
                 let first = first_line_of(text, name);
                 if first < number {
-                    return Some(PasswordListFault::Double(number, first));
+                    return Some((number, first));
                 }
             }
             names.add(name);
@@ -168,7 +184,9 @@ fn report_passwords_fault(
     path: &str,
     text: &[u8],
     fault: PasswordsFault,
-) -> Fault {
+) -> Fault
+    ensures { result ≡ passwords_fault fault }
+{
     match fault {
         PasswordsFault::Line(number) => {
             let why = why_no_password(text, number);
@@ -183,7 +201,8 @@ fn report_passwords_fault(
 }
 
 // Returns the password of each job by a list of passwords, the text of the file at `path`, as
-// `passwords` does.
+// `passwords` does. Errors, in this order: `Input` for the first wrong line; `Input` for the first
+// job without a password; `Input` if two lines have one name. `Memory` can occur at any point.
 fn passwords_in(
     rt: &HostRuntime,
     jobs: &Jobs,
@@ -196,12 +215,14 @@ fn passwords_in(
         (option_copied common.entry) jobs.now) }
     ensures sized { IfOk result (λ passwords. All IsPassword passwords) }
     ensures paired { IfOk result (λ passwords. length passwords ≡ length jobs.now) }
+    ensures err { IfErr result (IsTextFault text.now (option_copied common.entry)) }
 {
     match passwords_for(rt.alloc(), jobs.as_slice(), text, common) {
         Ok(passwords) => match find_double(text) {
             None => Ok(passwords),
-            Some(fault) => {
+            Some((number, first)) => {
                 drop(passwords);
+                let fault = PasswordListFault::Double(number, first);
                 Err(report_list_fault(rt, path, fault))
             }
         },
@@ -224,6 +245,7 @@ pub(crate) fn passwords(
         (option_copied common.entry) jobs.now) }
     ensures sized { IfOk result (λ passwords. All IsPassword passwords) }
     ensures paired { IfOk result (λ passwords. length passwords ≡ length jobs.now) }
+    ensures err { IfErr result (IsJobsFault (found_of matches.now) (option_copied common.entry)) }
 {
     let text = read_list(rt, matches)?;
     let path = matches.get_str("passwords").unwrap_or("passwords");

@@ -1,14 +1,16 @@
 //! `plan_campaign` and `plan_jobs`: what a campaign starts with: its options, and its jobs, which
 //! are those of the list in an input or are given.
-ghost use Rattle.std.specs.Prelude.{◌≡◌, ◌≤◌, ℕ, List, Some, codes, length, string_bytes};
-ghost use Rattle.std.specs.Prelude.{IfOk, IfSome, IsSomeAnd};
+ghost use Rattle.std.specs.Prelude.{◌≡◌, ◌≤◌, ℕ, List, Some, true, codes, length, string_bytes};
+ghost use Rattle.std.specs.Prelude.{IfOk, IfErr, IfSome, IsSomeAnd};
 ghost use Rattle.std.specs.List.{All};
 ghost use Rattle.acse_ber.specs.Password.{IsPassword};
 ghost use Rattle.clap.specs.Matches.{first_value, found_of};
-ghost use Rattle.program.specs.Passwords.{HasNoLineEnd};
+ghost use Rattle.program.specs.Passwords.{HasNoLineEnd, is_of_files};
 ghost use Rattle.head_end_commands.specs.Lists.{AreJobsOf};
 ghost use Rattle.head_end_commands.specs.Options.{AreLimits, AreWorkers, IsLimit, IsNumber};
 ghost use Rattle.head_end_commands.specs.Passwords.{ArePasswords, HasPasswords, IsCommonPassword};
+ghost use Rattle.head_end_commands.specs.PlanFaults.{IsCampaignFault, IsCommonFault, IsJobsFault};
+ghost use Rattle.head_end_commands.specs.PlanFaults.{IsPasswordFault, IsPlanFault};
 
 use crate::listing::load_jobs;
 use crate::passwords::passwords;
@@ -85,6 +87,7 @@ fn workers(matches: &ArgMatches<'_>) -> u8
 fn parse_password(alloc: Global, text: &str) -> Result<Octets, Fault>
     ensures sized { IfOk result IsPassword }
     ensures bytes { IfOk result (λ password. password ≡ text.now) }
+    ensures err { IfErr result (IsPasswordFault text.now) }
 {
     let bytes = text.as_bytes();
     if bytes.is_empty() || bytes.len() > MAX_PASSWORD {
@@ -101,6 +104,7 @@ fn parse_password(alloc: Global, text: &str) -> Result<Octets, Fault>
 fn check_password(rt: &HostRuntime, text: &str, is_verbose: bool) -> Result<Octets, Fault>
     ensures sized { IfOk result IsPassword }
     ensures bytes { IfOk result (λ password. password ≡ text.now) }
+    ensures err { IfErr result (IsPasswordFault text.now) }
 {
     let password = parse_password(rt.alloc(), text);
     if is_verbose && matches!(password, Err(Fault::Input)) {
@@ -109,15 +113,18 @@ fn check_password(rt: &HostRuntime, text: &str, is_verbose: bool) -> Result<Octe
     password
 }
 
-// Returns the password of the file of `--password-file`, else that of the environment.
+// Returns the password of the file of `--password-file`, else that of the environment. Errors:
+// `Read` if the file cannot be read; `Input` if it has no password, or if the environment's is not
+// UTF-8; `Memory`.
 fn stored_password(
     rt: &HostRuntime,
     matches: &ArgMatches<'_>,
     is_verbose: bool,
 ) -> Result<Option<String>, Fault>
-    ensures { IfOk result (λ password. (path : List ℕ)
+    ensures one_line { IfOk result (λ password. (path : List ℕ)
         → first_value (found_of matches.now) (codes "password-file") ≡ Some path
         → IsSomeAnd password (λ text. HasNoLineEnd (string_bytes text))) }
+    ensures err { IfErr result (λ fault. is_of_files fault ≡ true) }
 {
     match matches.get_str("password-file") {
         Some(path) => Ok(Some(read_password_file(rt, path)?)),
@@ -134,7 +141,8 @@ fn common_password(
     matches: &ArgMatches<'_>,
     is_verbose: bool,
 ) -> Result<Option<Octets>, Fault>
-    ensures { IfOk result (IsCommonPassword (found_of matches.now)) }
+    ensures common { IfOk result (IsCommonPassword (found_of matches.now)) }
+    ensures err { IfErr result (IsCommonFault (found_of matches.now)) }
 {
     if let Some(text) = matches.get_str("password") {
         return Ok(Some(check_password(rt, text, is_verbose)?));
@@ -156,6 +164,7 @@ fn job_passwords(
     ensures passwords { IfOk result (ArePasswords (found_of matches.now) common.now jobs.now) }
     ensures sized { IfOk result (λ passwords. All IsPassword passwords) }
     ensures paired { IfOk result (λ passwords. length passwords ≡ length jobs.now) }
+    ensures err { IfErr result (IsJobsFault (found_of matches.now) common.now) }
 {
     match common {
         Some(password) => passwords(rt, matches, jobs, Some(password.as_slice())),
@@ -177,6 +186,7 @@ fn plan_with(
     ensures workers { IfOk result (λ plan. AreWorkers (found_of matches.now) plan.workers) }
     ensures passwords { IfOk result (λ plan. ArePasswords (found_of matches.now) common.now
         plan.jobs plan.passwords) }
+    ensures err { IfErr result (IsJobsFault (found_of matches.now) common.now) }
 {
     match job_passwords(rt, matches, &jobs, common) {
         Ok(passwords) => Ok(CampaignPlan {
@@ -211,6 +221,7 @@ pub fn plan_jobs(
     ensures workers { IfOk result (λ plan. AreWorkers (found_of matches.now) plan.workers) }
     ensures passwords { IfOk result (λ plan. HasPasswords (found_of matches.now) plan.jobs
         plan.passwords) }
+    ensures err { IfErr result (IsPlanFault (found_of matches.now)) }
 {
     match common_password(rt, matches, matches.get_flag("verbose")) {
         Ok(common) => {
@@ -242,6 +253,7 @@ pub fn plan_campaign<I: Read + Drop>(
     ensures workers { IfOk result (λ plan. AreWorkers (found_of matches.now) plan.workers) }
     ensures passwords { IfOk result (λ plan. HasPasswords (found_of matches.now) plan.jobs
         plan.passwords) }
+    ensures err { IfErr result (IsCampaignFault (found_of matches.now) (I.remaining input)) }
 {
     let is_verbose = matches.get_flag("verbose");
     let common = common_password(rt, matches, is_verbose)?;
