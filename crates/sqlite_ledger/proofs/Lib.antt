@@ -2,6 +2,7 @@ pub mod AddedStates
 pub mod AnswerLemmas
 pub mod AnswerReads
 pub mod AnswerStates
+pub mod EntryLemmas
 pub mod InsertLemmas
 pub mod InsertStates
 pub mod MarkLemmas

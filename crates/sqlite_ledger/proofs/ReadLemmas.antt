@@ -5,6 +5,7 @@ use Rattle.sqlite.specs.Listing.{understood}
 use Rattle.sqlite.specs.State.{State, IsUnchanged, Shown, ShowsRows}
 use Rattle.sqlite.proofs.Callers.{IsPlain}
 use Rattle.sqlite_tied.specs.Compute.{everything}
+use Rattle.sqlite_ledger.specs.Readings.{select_begun, select_outcomes}
 use Rattle.sqlite_ledger.specs.Schema.{ledger_schema}
 
 pub shown_unchanged : (sql : List ℕ) (old new : State) (rows : List Row) → IsPlain (understood
@@ -24,12 +25,6 @@ select_jobs = codes "SELECT place, name, address, verb FROM job ORDER BY place"
 
 abbrev pub select_campaign : List ℕ
 select_campaign = codes "SELECT version, jobs FROM campaign"
-
-abbrev pub select_begun : List ℕ
-select_begun = codes "SELECT place FROM begun"
-
-abbrev pub select_outcomes : List ℕ
-select_outcomes = codes "SELECT place, kind, number FROM outcome"
 
 abbrev pub select_begun_times : List ℕ
 select_begun_times = codes "SELECT place, at FROM begun"

@@ -1,12 +1,16 @@
 -- The answers of a file.
 --     IsControlState    a number that is a state of the control
 --     IsAnswerIn        the answer of a row that was read
+--     select_answers    the query of all answers
+--     AreShown          the answers that a query of all answers shows
 --     answer_row        the row of an answer
 --     IsRecorded        the trees have the answer
 --     IsSafe            all trees that a crash may leave have it
-use Rattle.std.specs.Prelude.{◌≡◌, ◌≤◌, ℕ, ℤ, pos, [], ◌∷◌, Option, Some, None}
+use Rattle.std.specs.Prelude.{◌≡◌, ◌<◌, ◌≤◌, ◌^◌, ℕ, ℤ, pos, List, [], ◌∷◌, codes, Option, Some, None}
+use Rattle.std.specs.List.{AllZip}
 use Rattle.sqlite.specs.declared.types.Value.TheVariants.{Null, Int, Text as Words}
 use Rattle.sqlite.specs.Order.{Row, column}
+use Rattle.sqlite.specs.State.{State, Shown}
 use Rattle.sqlite.specs.Tree.{Trees}
 use Rattle.sqlite_rules.specs.Lists.{Has}
 use Rattle.ledger_reports.specs.declared.answer.StateAnswer.{StateAnswer}
@@ -17,13 +21,27 @@ use Rattle.sqlite_ledger.specs.AnswersSchema.{answer_tree}
 abbrev pub IsControlState : ℕ → Type 0
 IsControlState state = state ≤ 2
 
--- whether a row that was read has this answer: the name, the address and the state, which is one of
--- the control
+-- Whether a row that was read has this answer: the name, the address, the state, which is one of
+-- the control, and the second of the asking, which is not known if it is 0.
 pub record IsAnswerIn (row : Row) (answer : StateAnswer) : Type 0 where
   pub name_is : column row 0 ≡ Words answer.name
   pub address_is : column row 1 ≡ Words answer.address
   pub state_is : column row 2 ≡ Int (pos answer.answer.state)
   pub is_state : IsControlState answer.answer.state
+  pub not_known : column row 3 ≡ Int (pos 0) → answer.answer.asked_at ≡ None
+  pub asked_is : (second : ℕ) → 0 < second → second < 2 ^ 32 → column row 3 ≡ Int (pos second)
+      → answer.answer.asked_at ≡ Some second
+
+-- the query of all answers, the one with the first number first
+abbrev pub select_answers : List ℕ
+select_answers = codes "SELECT name, address, state, asked_at FROM answer ORDER BY number"
+
+-- whether these are the answers of the rows that the query of all answers shows, one for each row,
+-- in their order
+pub record AreShown (old new : State) (answers : List StateAnswer) : Type 0 where
+  pub rows : List Row
+  pub shown : Shown select_answers [] old new rows
+  pub answers_are : AllZip IsAnswerIn rows answers
 
 -- the second of an asking as the file has it: 0 if it is not known
 abbrev pub second_of : Option ℕ → ℕ

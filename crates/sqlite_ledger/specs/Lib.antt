@@ -8,5 +8,6 @@ pub mod EntryCode
 pub mod Marks
 pub mod OpenFaults
 pub mod Outcomes
+pub mod Readings
 pub mod Schema
 pub mod Taken

@@ -3,6 +3,7 @@ ghost use Rattle.std.specs.Prelude.{◌≡◌, ◌≢◌, [], length, Ok, Err, O
 ghost use Rattle.sqlite.specs.State.{HasCleanDisk, IsUnchanged};
 ghost use Rattle.sqlite.specs.Held.{state};
 ghost use Rattle.sqlite_ledger.specs.Marks.{LeavesCommit};
+ghost use Rattle.sqlite_ledger.specs.Readings.{HasEntries};
 ghost use Rattle.sqlite_ledger.specs.Schema.{ledger_schema};
 ghost use Rattle.sqlite_ledger.specs.declared.open_fault.LedgerOpenFault.TheVariants.{NotALedger};
 
@@ -41,6 +42,9 @@ fn read_ledger<S: Alter>(
     ensures clean { HasCleanDisk (state S.Store conn.new) → HasCleanDisk (state S.Store conn.old) }
     ensures unchanged { HasCleanDisk (state S.Store conn.new) → conn.old.schema ≡ ledger_schema
         → OnOk result (IsUnchanged (state S.Store conn.old) (state S.Store conn.new)) }
+    ensures entries { HasCleanDisk (state S.Store conn.new) → conn.old.schema ≡ ledger_schema
+        → IfOk result (λ entries. HasEntries (λ c. state S.Store c) conn.old conn.new
+        (length jobs.now) entries.items) }
     ensures len { IfOk result (λ entries. length entries.items ≡ length jobs.now) }
 {
     if !has_jobs(conn, jobs)? {
@@ -53,7 +57,8 @@ fn read_ledger<S: Alter>(
 }
 
 /// Opens the ledger of a campaign with these jobs over a connection. An empty database gets the
-/// tables and the jobs, in one transaction. A database with other tables is unchanged.
+/// tables and the jobs, in one transaction. A database with other tables is unchanged. The entries
+/// are those of the marks and the outcomes that the queries of the database show.
 ///
 /// Errors, each with the connection: `NotALedger` for a database with other tables, of another
 /// version, or with a mark or an outcome that is none; `OtherList` for the ledger of another list
@@ -64,7 +69,10 @@ pub fn open_book<S: Alter + Drop>(
     jobs: &[Job],
 ) -> Result<Ledger<SqliteBook<S>>, (LedgerOpenFault, Connection<S>)>
     ensures schema { IfOk result (λ ledger. ledger.book.schema ≡ ledger_schema) }
-    ensures entries { IfOk result (λ ledger. length ledger.entries ≡ length jobs.now) }
+    ensures len { IfOk result (λ ledger. length ledger.entries ≡ length jobs.now) }
+    ensures entries { conn.schema ≡ ledger_schema → IfOk result (λ ledger.
+        HasCleanDisk (state S.Store ledger.book) → HasEntries (λ c. state S.Store c) conn
+        ledger.book (length jobs.now) ledger.entries) }
     ensures unfailed { IfOk result (λ ledger. ledger.has_failed ≡ false) }
     ensures other_tables_unchanged { conn.schema.tables ≢ [] → conn.schema ≢ ledger_schema
         → result ≡ Err (NotALedger, conn) }

@@ -1,10 +1,12 @@
 //! What a ledger's file has: its campaign, its jobs, its marks and its outcomes.
-ghost use Rattle.std.specs.Prelude.{◌≡◌, ◌≢◌, ◌<◌, ◌^◌, ℕ, pos, Some, None, Err, length, IfOk};
+ghost use Rattle.std.specs.Prelude.{◌≡◌, ◌≢◌, ◌<◌, ◌^◌, ℕ, pos, [], Some, None, Err, length, IfOk};
 ghost use Rattle.std.specs.Prelude.{OnOk, vec_len};
-ghost use Rattle.sqlite.specs.State.{HasCleanDisk, IsUnchanged};
+ghost use Rattle.sqlite.specs.State.{HasCleanDisk, IsUnchanged, Shown};
 ghost use Rattle.sqlite.specs.Given.{IsPlain};
 ghost use Rattle.sqlite.specs.Listing.{understood};
 ghost use Rattle.sqlite.specs.Held.{state};
+ghost use Rattle.sqlite_ledger.specs.Readings.{Enters, EntersShown, IsMarkRow, IsOutcomeRow};
+ghost use Rattle.sqlite_ledger.specs.Readings.{select_begun, select_outcomes};
 ghost use Rattle.sqlite_ledger.specs.Schema.{ledger_schema};
 ghost use Rattle.sqlite_ledger.specs.declared.open_fault.LedgerOpenFault.TheVariants.{NotALedger};
 
@@ -39,6 +41,8 @@ const SELECT_OUTCOME_TIMES: &str = "SELECT place, at FROM outcome";
 
 // Returns the rows of a query.
 fn select<S: Alter>(conn: &mut Connection<S>, query: &str) -> Result<Vec<Row>, Error>
+    ensures shown { HasCleanDisk (state S.Store conn.new) → IfOk result (λ rows.
+        Shown query.now [] (state S.Store conn.old) (state S.Store conn.new) rows.items) }
     ensures clean { HasCleanDisk (state S.Store conn.new) → HasCleanDisk (state S.Store conn.old) }
     ensures unchanged { HasCleanDisk (state S.Store conn.new)
         → IsPlain (understood conn.old.schema query.now)
@@ -97,27 +101,33 @@ pub(crate) fn has_jobs<S: Alter>(
 }
 
 // Sets the entries of the marked places. Fails with `NotALedger` if one has no job.
-fn enter_marks(entries: &mut [LedgerEntry], rows: &[Row]) -> Result<(), LedgerOpenFault> {
-    for row in rows {
+fn enter_marks(entries: &mut [LedgerEntry], rows: &[Row]) -> Result<(), LedgerOpenFault>
+    ensures { OnOk result (Enters IsMarkRow rows.now entries.old entries.new) }
+{
+    'rows: for row in rows {
         let place: u32 = row.get(0)?;
-        match entries.get_mut(place as usize) {
-            Some(entry) => *entry = LedgerEntry::MaybeSent,
-            None => return Err(LedgerOpenFault::NotALedger),
+        let place = place as usize;
+        if place >= entries.len() {
+            return Err(LedgerOpenFault::NotALedger);
         }
+        entries[place] = LedgerEntry::MaybeSent;
     }
     Ok(())
 }
 
 // Sets the entries of the places with an outcome. Fails with `NotALedger` if a row has a place
 // without a job, or is that of no outcome.
-fn enter_outcomes(entries: &mut [LedgerEntry], rows: &[Row]) -> Result<(), LedgerOpenFault> {
-    for row in rows {
+fn enter_outcomes(entries: &mut [LedgerEntry], rows: &[Row]) -> Result<(), LedgerOpenFault>
+    ensures { OnOk result (Enters IsOutcomeRow rows.now entries.old entries.new) }
+{
+    'rows: for row in rows {
         let place: u32 = row.get(0)?;
+        let place = place as usize;
         let outcome = read_outcome(row)?;
-        match entries.get_mut(place as usize) {
-            Some(entry) => *entry = LedgerEntry::Came(outcome),
-            None => return Err(LedgerOpenFault::NotALedger),
+        if place >= entries.len() {
+            return Err(LedgerOpenFault::NotALedger);
         }
+        entries[place] = LedgerEntry::Came(outcome);
     }
     Ok(())
 }
@@ -127,6 +137,9 @@ pub(crate) fn read_marks<S: Alter>(
     conn: &mut Connection<S>,
     entries: &mut [LedgerEntry],
 ) -> Result<(), LedgerOpenFault>
+    ensures entries { HasCleanDisk (state S.Store conn.new) → OnOk result
+        (EntersShown select_begun IsMarkRow (state S.Store conn.old) (state S.Store conn.new)
+        entries.old entries.new) }
     ensures clean { HasCleanDisk (state S.Store conn.new) → HasCleanDisk (state S.Store conn.old) }
     ensures unchanged { HasCleanDisk (state S.Store conn.new) → conn.old.schema ≡ ledger_schema
         → OnOk result (IsUnchanged (state S.Store conn.old) (state S.Store conn.new)) }
@@ -140,6 +153,9 @@ pub(crate) fn read_outcomes<S: Alter>(
     conn: &mut Connection<S>,
     entries: &mut [LedgerEntry],
 ) -> Result<(), LedgerOpenFault>
+    ensures entries { HasCleanDisk (state S.Store conn.new) → OnOk result
+        (EntersShown select_outcomes IsOutcomeRow (state S.Store conn.old)
+        (state S.Store conn.new) entries.old entries.new) }
     ensures clean { HasCleanDisk (state S.Store conn.new) → HasCleanDisk (state S.Store conn.old) }
     ensures unchanged { HasCleanDisk (state S.Store conn.new) → conn.old.schema ≡ ledger_schema
         → OnOk result (IsUnchanged (state S.Store conn.old) (state S.Store conn.new)) }

@@ -1,9 +1,9 @@
 //! `read_answers`: reads all answers.
 ghost use Rattle.std.specs.Prelude.{◌≡◌, ◌⊎◌, [], IfOk, OnOk};
-ghost use Rattle.std.specs.List.{All};
-ghost use Rattle.sqlite.specs.State.{HasCleanDisk, IsUnchanged};
+ghost use Rattle.std.specs.List.{All, AllZip};
+ghost use Rattle.sqlite.specs.State.{HasCleanDisk, IsUnchanged, Shown};
 ghost use Rattle.sqlite.specs.Held.{state};
-ghost use Rattle.sqlite_ledger.specs.Answers.{IsAnswerIn, IsControlState};
+ghost use Rattle.sqlite_ledger.specs.Answers.{AreShown, IsAnswerIn, IsControlState, select_answers};
 ghost use Rattle.sqlite_ledger.specs.AnswersSchema.{answers_schema};
 
 use crate::answers::schema::is_answers_schema;
@@ -46,7 +46,8 @@ fn read_answer(alloc: Global, row: &Row) -> Result<StateAnswer, LedgerOpenFault>
 
 // Returns the answers of these rows.
 fn answers_of(alloc: Global, rows: &[Row]) -> Result<Vec<StateAnswer>, LedgerOpenFault>
-    ensures { IfOk result (λ answers. All (λ answer. IsControlState answer.answer.state)
+    ensures answers { IfOk result (λ answers. AllZip IsAnswerIn rows.now answers.items) }
+    ensures states { IfOk result (λ answers. All (λ answer. IsControlState answer.answer.state)
         answers.items) }
 {
     let mut answers = Vec::with_capacity(alloc, rows.len())?;
@@ -65,6 +66,8 @@ fn answers_of(alloc: Global, rows: &[Row]) -> Result<Vec<StateAnswer>, LedgerOpe
 
 // Returns the rows of the table `answer`, in the order of their numbers.
 fn select_answers<S: Alter>(conn: &mut Connection<S>) -> Result<Vec<Row>, Error>
+    ensures shown { HasCleanDisk (state S.Store conn.new) → IfOk result (λ rows.
+        Shown select_answers [] (state S.Store conn.old) (state S.Store conn.new) rows.items) }
     ensures clean { HasCleanDisk (state S.Store conn.new) → HasCleanDisk (state S.Store conn.old) }
     ensures unchanged { HasCleanDisk (state S.Store conn.new) → conn.old.schema ≡ answers_schema
         → OnOk result (IsUnchanged (state S.Store conn.old) (state S.Store conn.new)) }
@@ -72,7 +75,8 @@ fn select_answers<S: Alter>(conn: &mut Connection<S>) -> Result<Vec<Row>, Error>
     conn.query_all(SELECT_ANSWERS, &[])
 }
 
-/// Returns all answers, the first one first, and changes nothing.
+/// Returns all answers, the first one first, and changes nothing. They are those of the rows that
+/// the query of all answers shows.
 ///
 /// Errors: `Answers` for a database with other tables, or with a state that the control does not
 /// have; `File` and `Memory`.
@@ -81,6 +85,8 @@ pub fn read_answers<S: Alter>(
     conn: &mut Connection<S>,
 ) -> Result<Vec<StateAnswer>, LedgerOpenFault>
     ensures clean { HasCleanDisk (state S.Store conn.new) → HasCleanDisk (state S.Store conn.old) }
+    ensures answers { HasCleanDisk (state S.Store conn.new) → IfOk result (λ answers.
+        AreShown (state S.Store conn.old) (state S.Store conn.new) answers.items) }
     ensures schema { IfOk result (λ _. conn.old.schema ≡ answers_schema) }
     ensures states { IfOk result (λ answers. All (λ answer. IsControlState answer.answer.state)
         answers.items) }
@@ -95,7 +101,8 @@ pub fn read_answers<S: Alter>(
 }
 
 /// Returns all answers, the first one first, or none if the database has no table yet, as a crash
-/// may leave it before the table is made. Changes nothing.
+/// may leave it before the table is made. They are those of the rows that the query of all answers
+/// shows. Changes nothing.
 ///
 /// Errors: `Answers` for a database with other tables, or with a state that the control does not
 /// have; `File` and `Memory`.
@@ -104,6 +111,9 @@ pub fn read_answers_if_made<S: Alter>(
     conn: &mut Connection<S>,
 ) -> Result<Vec<StateAnswer>, LedgerOpenFault>
     ensures clean { HasCleanDisk (state S.Store conn.new) → HasCleanDisk (state S.Store conn.old) }
+    ensures answers { HasCleanDisk (state S.Store conn.new) → conn.old.schema ≡ answers_schema
+        → IfOk result (λ answers.
+        AreShown (state S.Store conn.old) (state S.Store conn.new) answers.items) }
     ensures schema { IfOk result (λ answers. (conn.old.schema ≡ answers_schema)
         ⊎ ((conn.old.schema.tables ≡ []) × (answers.items ≡ []))) }
     ensures states { IfOk result (λ answers. All (λ answer. IsControlState answer.answer.state)

@@ -1,7 +1,9 @@
-use Rattle.std.specs.List.{All}
-use Rattle.sqlite_ledger.specs.Answers.{IsControlState}
+use Rattle.std.proofs.Common.{take}
+use Rattle.std.specs.List.{All, AllZip}
+use Rattle.sqlite_ledger.specs.Answers.{IsAnswerIn, IsControlState}
 use Rattle.sqlite_ledger.proofs.answers.reading.answers_of.Given as goal
 
--- the states of the answers so far are the control's
+-- the answers so far are those of the rows so far, and their states are the control's
 abbrev pub invariant-rows : goal.invariant-rows
-invariant-rows l = All (λ answer. IsControlState answer.answer.state) l.answers.items
+invariant-rows l = AllZip IsAnswerIn (take l.row-index l.rows) l.answers.items
+    × All (λ answer. IsControlState answer.answer.state) l.answers.items

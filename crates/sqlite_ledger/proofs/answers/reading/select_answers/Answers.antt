@@ -2,7 +2,8 @@ use Rattle.std.proofs.Common.{[]}
 use Rattle.sqlite.specs.Held.{state}
 use Rattle.sqlite.specs.State.{Shown}
 use Rattle.sqlite_ledger.proofs.ReadLemmas.{ok_then, shown_unchanged}
-use Rattle.sqlite_ledger.proofs.AnswerReads.{answers_plain, select_answers}
+use Rattle.sqlite_ledger.specs.Answers.{select_answers}
+use Rattle.sqlite_ledger.proofs.AnswerReads.{answers_plain}
 use Rattle.sqlite_ledger.proofs.answers.reading.select_answers.Goals as goal
 
 pub returns-clause-unchanged : goal.returns-clause-unchanged
