@@ -5,7 +5,6 @@ use Rattle.meter_run.specs.Journaled.{IsJournaledRun}
 use Rattle.meter_run.specs.Runs.{Given, IsRun}
 use Rattle.meter_server.specs.declared.serving_all.Served.{Served}
 use Rattle.meter_server_cli.specs.Endings.{Prints, PrintsText, PrintsTrace}
-use Rattle.program.specs.Ends.{first_of}
 use Rattle.program.specs.declared.fault.Fault.{Fault}
 use Rattle.relay_recorder.specs.Recording.{Recording}
 use Rattle.session_io.specs.declared.fault.ServeFault.{ServeFault}
@@ -54,9 +53,3 @@ journaled_printed acts identity seen may_leave moment left_since stored Renews f
     }
 journaled_printed acts identity seen may_leave moment left_since stored Renews file recorder
     password served journal (Err fault) before after printed = tt
-
--- what holds if the last part ended without a fault holds if no part had one
-pub holds_at_last : (first last : Result (Unit {0}) Fault) (P : Type 0) → OnOk last P
-    → OnOk (first_of first last) P
-holds_at_last (Ok done) last P holds = holds
-holds_at_last (Err fault) last P holds = tt
