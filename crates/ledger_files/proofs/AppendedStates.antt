@@ -9,14 +9,19 @@ use Rattle.sqlite.specs.Effect.{Database}
 use Rattle.sqlite.specs.State.{State, HasCleanDisk, IsUnchanged}
 use Rattle.sqlite_ledger.proofs.InsertStates.{IsSettled}
 use Rattle.ledger_reports.specs.declared.answer.StateAnswer.{StateAnswer}
-use Rattle.sqlite_ledger.specs.Answers.{IsRecorded, IsSafe}
-use Rattle.sqlite_ledger.specs.AnswersSchema.{answers_schema}
+use Rattle.sqlite.specs.Order.{Row}
+use Rattle.sqlite_ledger.specs.Answers.{AddsAnswers, IsRecorded, IsSafe, answer_rows}
+use Rattle.sqlite_ledger.specs.AnswersSchema.{answer_tree, answers_schema}
 use Rattle.ledger_files.specs.Answered.{AreAppended, AreAppendedTo, AreRecorded}
 
 module _ (old new : State) (same : IsUnchanged old new) where
   -- what a query leaves unchanged has the schema that it had
   schema_after : old.now.schema ≡ answers_schema → new.now.schema ≡ answers_schema
   schema_after has = ap (λ (d : Database). d.schema) same.0.now_is ∙ has
+
+  -- and the same rows
+  rows_after : answer_rows new ≡ answer_rows old
+  rows_after = ap (λ (d : Database). d.trees answer_tree) same.0.now_is
 
   -- an answer that every crash left before a query, every crash leaves after it
   safe_after : IsSettled old → IsSettled new → (other : StateAnswer)
@@ -41,18 +46,25 @@ pub appends : {T F : Type 0} (old start mid new : State) (answers : List StateAn
     → OnOk result (AllByRecursion (IsSafe new.may_leave) answers))
     → (HasCleanDisk new → mid.now.schema ≡ answers_schema → (other : StateAnswer)
     → IsSafe mid.may_leave other → IsSafe new.may_leave other)
+    → (old.now.schema ≡ answers_schema → answer_rows start ≡ answer_rows old)
+    → (HasCleanDisk new → mid.now.schema ≡ answers_schema
+    → OnOk result (AddsAnswers (answer_rows mid) answers (answer_rows new)))
     → OnOk result (AreAppended old new answers)
 appends old start mid new answers (Ok done) at_start at_mid has clean_old safe_old clean_start same
-    clean_mid recorded remains = record {
+    clean_mid recorded remains rows added = record {
       recorded = λ clean. recorded clean (schema_after start mid (same (clean_mid clean) has) has);
       clean = λ clean was. clean_old was (clean_start (clean_mid clean));
       remain = λ clean was other safe. remains clean
           (schema_after start mid (same (clean_mid clean) has) has) other
           (safe_after start mid (same (clean_mid clean) has) at_start at_mid other
           (safe_old was other safe));
+      added = λ clean was.
+          subst (λ (from : List Row). AddsAnswers from answers (answer_rows new))
+          (rows_after start mid (same (clean_mid clean) has) ∙ rows was)
+          (added clean (schema_after start mid (same (clean_mid clean) has) has));
     }
 appends old start mid new answers (Err fault) at_start at_mid has clean_old safe_old clean_start
-    same clean_mid recorded remains = tt
+    same clean_mid recorded remains rows added = tt
 
 -- what holds, holds if a result is Ok
 pub if_ok : {T F A : Type 0} (result : Result T F) → A → OnOk result A

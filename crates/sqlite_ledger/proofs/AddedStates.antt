@@ -1,11 +1,13 @@
 -- Answers that are appended one by one.
 use Rattle.std.proofs.Common.{◌≡◌, ◌<◌, ◌+◌, ℕ, List, [], ◌∷◌, ◌++◌, take, length, slice_index_or}
-use Rattle.std.proofs.Common.{sym, subst, arith}
+use Rattle.std.proofs.Common.{refl, sym, subst, arith}
 use Rattle.std.proofs.lemmas.Grind.{common_steps}
 use Rattle.std.specs.List.{AllByRecursion}
 use Rattle.sqlite.specs.State.{State, HasCleanDisk}
 use Rattle.ledger_reports.specs.declared.answer.StateAnswer.{StateAnswer}
-use Rattle.sqlite_ledger.specs.Answers.{IsSafe}
+use Rattle.sqlite.specs.Order.{Row}
+use Rattle.sqlite.specs.Tree.{put_row}
+use Rattle.sqlite_ledger.specs.Answers.{answer_row, answer_rows, AddsAnswers, IsSafe}
 use Rattle.sqlite_ledger.specs.AnswersSchema.{answers_schema}
 
 -- what holds of all, if it is kept and holds of one more
@@ -16,6 +18,18 @@ all_more P Q [] answer keeps all one = (one, tt)
 all_more P Q (first ∷ answers) answer keeps all one =
     (keeps first all.0, all_more P Q answers answer keeps all.1 one)
 
+-- one answer more is put in
+added_more : (old mid new : List Row) (answers : List StateAnswer) (answer : StateAnswer)
+    → AddsAnswers old answers mid → AddsAnswers mid (answer ∷ []) new
+    → AddsAnswers old (answers ++ answer ∷ []) new
+added_more old mid new [] answer before one =
+    subst (λ (rows : List Row). AddsAnswers rows (answer ∷ []) new) before one
+added_more old mid new (first ∷ answers) answer before one = (
+  before.0,
+  before.1,
+  added_more (put_row (answer_row before.0 first) old) mid new answers answer before.2 one,
+)
+
 -- These answers were appended between two states. What was recorded before remains.
 pub record Adds (old new : State) (answers : List StateAnswer) : Type 0 where
   pub clean : HasCleanDisk new → HasCleanDisk old
@@ -24,6 +38,8 @@ pub record Adds (old new : State) (answers : List StateAnswer) : Type 0 where
       → AllByRecursion (IsSafe new.may_leave) answers
   pub remains : HasCleanDisk new → old.now.schema ≡ answers_schema → (other : StateAnswer)
       → IsSafe old.may_leave other → IsSafe new.may_leave other
+  pub added : HasCleanDisk new → old.now.schema ≡ answers_schema
+      → AddsAnswers (answer_rows old) answers (answer_rows new)
 
 -- One answer was appended.
 pub record AddsOne (old new : State) (answer : StateAnswer) : Type 0 where
@@ -32,6 +48,8 @@ pub record AddsOne (old new : State) (answer : StateAnswer) : Type 0 where
   pub recorded : HasCleanDisk new → old.now.schema ≡ answers_schema → IsSafe new.may_leave answer
   pub remains : HasCleanDisk new → old.now.schema ≡ answers_schema → (other : StateAnswer)
       → IsSafe old.may_leave other → IsSafe new.may_leave other
+  pub added : HasCleanDisk new → old.now.schema ≡ answers_schema
+      → AddsAnswers (answer_rows old) (answer ∷ []) (answer_rows new)
 
 pub adds_none : (s : State) → Adds s s []
 adds_none s = record {
@@ -39,6 +57,7 @@ adds_none s = record {
   schema = λ clean has. has;
   recorded = λ clean has. tt;
   remains = λ clean has other safe. safe;
+  added = λ clean has. refl;
 }
 
 -- one more answer
@@ -58,4 +77,10 @@ adds_more old mid new answers i answer below is before one =
       remains = λ clean has other safe.
           one.remains clean (before.schema (one.clean clean) has) other
           (before.remains (one.clean clean) has other safe);
+      added = λ clean has.
+          subst (λ (list : List StateAnswer). AddsAnswers (answer_rows old) list (answer_rows new))
+          (sym more)
+          (added_more (answer_rows old) (answer_rows mid) (answer_rows new) (take i answers) answer
+          (before.added (one.clean clean) has)
+          (one.added clean (before.schema (one.clean clean) has)));
     }

@@ -24,7 +24,8 @@ use Rattle.sqlite_rules.specs.Lists.{Has}
 use Rattle.sqlite_rules.proofs.TableLemmas.{put_all_adds, put_all_keeps}
 use Rattle.sqlite_ledger.proofs.InsertLemmas.{went, same_value, cast_int, cast_null}
 use Rattle.ledger_reports.specs.declared.answer.StateAnswer.{StateAnswer}
-use Rattle.sqlite_ledger.specs.Answers.{answer_row, second_of, IsRecorded}
+use Rattle.std.proofs.lemmas.Bool.{and_parts, not-true}
+use Rattle.sqlite_ledger.specs.Answers.{answer_row, second_of, AddsAnswers, IsRecorded}
 use Rattle.sqlite_ledger.specs.AnswersSchema.{answer_tree, answer_table, answers_schema}
 
 abbrev pub answer_text : List ℕ
@@ -126,3 +127,7 @@ module _ (db after : Database) (number : ℤ) (answer : StateAnswer) (adds : Add
     subst (λ rows. Has rows (answer_row was.0 other)) (sym adds.rows) (put_all_keeps (answer_row
         number answer ∷ []) (db.trees answer_tree) (answer_row was.0 other) adds.fresh was.1),
   )
+
+  -- the rows are those before and that of the answer
+  pub added : AddsAnswers (db.trees answer_tree) (answer ∷ []) (after.trees answer_tree)
+  added = (number, not-true _ (and_parts _ _ adds.fresh).0, adds.rows)

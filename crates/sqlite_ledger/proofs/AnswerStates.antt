@@ -1,5 +1,6 @@
 -- What an INSERT of an answer does to the answers that a crash leaves.
-use Rattle.std.proofs.Common.{◌≡◌, inl, inr, ℕ, ℤ, append-nil, false, None, Ok, Err, Result}
+use Rattle.std.proofs.Common.{◌≡◌, inl, inr, ℕ, ℤ, [], ◌∷◌, append-nil, false, None, Ok, Err}
+use Rattle.std.proofs.Common.{Result}
 use Rattle.std.proofs.Common.{OnOk, IsTrue, sym, ap, subst, ◌∙◌, arith}
 use Rattle.sqlite.specs.Tree.{Trees}
 use Rattle.sqlite.specs.Command.TheVariants.{Insert}
@@ -12,11 +13,11 @@ use Rattle.sqlite.proofs.Callers.{IsPlain, command_of, statement_of, runs_as}
 use Rattle.sqlite_ledger.specs.AtRest.{IsAtRest}
 use Rattle.sqlite_ledger.proofs.InsertStates.{IsSettled}
 use Rattle.ledger_reports.specs.declared.answer.StateAnswer.{StateAnswer}
-use Rattle.sqlite_ledger.specs.Answers.{answer_row, IsRecorded, IsSafe}
-use Rattle.sqlite_ledger.specs.AnswersSchema.{answers_schema}
+use Rattle.sqlite_ledger.specs.Answers.{answer_row, answer_rows, AddsAnswers, IsRecorded, IsSafe}
+use Rattle.sqlite_ledger.specs.AnswersSchema.{answer_tree, answers_schema}
 use Rattle.sqlite_ledger.proofs.AnswerLemmas.{answer_text, answer_source, answer_params}
 use Rattle.sqlite_ledger.proofs.AnswerLemmas.{answer_is, answer_plain, answer_does, AddsAnswer}
-use Rattle.sqlite_ledger.proofs.AnswerLemmas.{recorded, kept}
+use Rattle.sqlite_ledger.proofs.AnswerLemmas.{recorded, kept, added}
 
 module _ (number : ℤ) (answer : StateAnswer) where
   -- An INSERT that is made adds the answer, and commits it.
@@ -84,6 +85,13 @@ module _ (number : ℤ) (answer : StateAnswer) where
         → OnOk r (new.now.schema ≡ answers_schema)
     schema (Ok count) h = (is_made count h).adds.schema
     schema (Err e) h = tt
+
+    pub adds_one : (r : Result ℕ Error) → Executes answer_text (answer_params number answer) mid new
+        r → OnOk r (AddsAnswers (answer_rows old) (answer ∷ []) (answer_rows new))
+    adds_one (Ok count) h =
+        subst (λ (d : Database). AddsAnswers (d.trees answer_tree) (answer ∷ []) (answer_rows new))
+        same.0.now_is (added mid.now new.now number answer (is_made count h).adds)
+    adds_one (Err e) h = tt
 
     -- an answer that every crash left before, every crash leaves after, even if the INSERT fails
     pub remains : IsSettled old → HasCleanDisk new → Survives old mid (λ _. ⊥) → Survives mid new

@@ -6,12 +6,16 @@
 --     answer_row        the row of an answer
 --     IsRecorded        the trees have the answer
 --     IsSafe            all trees that a crash may leave have it
-use Rattle.std.specs.Prelude.{◌≡◌, ◌<◌, ◌≤◌, ◌^◌, ℕ, ℤ, pos, List, [], ◌∷◌, codes, Option, Some, None}
+--     answer_rows       the rows of the answers that a connection sees
+--     AddsAnswers       rows and the same with answers put in, and no others
+use Rattle.std.specs.Prelude.{◌≡◌, ◌<◌, ◌≤◌, ◌^◌, ℕ, ℤ, pos, false, List, [], ◌∷◌, codes}
+use Rattle.std.specs.Prelude.{Option, Some, None}
 use Rattle.std.specs.List.{AllZip}
 use Rattle.sqlite.specs.declared.types.Value.TheVariants.{Null, Int, Text as Words}
+use Rattle.sqlite.specs.Edit.{is_taken}
 use Rattle.sqlite.specs.Order.{Row, column}
 use Rattle.sqlite.specs.State.{State, Shown}
-use Rattle.sqlite.specs.Tree.{Trees}
+use Rattle.sqlite.specs.Tree.{Trees, put_row}
 use Rattle.sqlite_rules.specs.Lists.{Has}
 use Rattle.ledger_reports.specs.declared.answer.StateAnswer.{StateAnswer}
 use Rattle.sqlite_ledger.specs.AnswersSchema.{answer_tree}
@@ -60,3 +64,15 @@ IsRecorded db answer = (number : ℤ) × Has (db answer_tree) (answer_row number
 -- whether this answer is in all trees that a crash may leave
 abbrev pub IsSafe : (Trees → Type 0) → StateAnswer → Type 0
 IsSafe may_leave answer = (db : Trees) → may_leave db → IsRecorded db answer
+
+-- the rows of the table of the answers that a connection sees
+abbrev pub answer_rows : State → List Row
+answer_rows s = s.now.trees answer_tree
+
+-- whether the new rows are the old ones and one for each of these answers, which were put in one
+-- after the other, each with a number that no row had
+abbrev pub AddsAnswers : List Row → List StateAnswer → List Row → Type 0
+AddsAnswers old [] new = new ≡ old
+AddsAnswers old (answer ∷ answers) new = (number : ℤ)
+    × (is_taken old (answer_row number answer) ≡ false)
+    × AddsAnswers (put_row (answer_row number answer) old) answers new

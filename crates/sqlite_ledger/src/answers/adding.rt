@@ -1,10 +1,10 @@
 //! `add_answers`: appends answers.
-ghost use Rattle.std.specs.Prelude.{◌≡◌, OnOk};
+ghost use Rattle.std.specs.Prelude.{◌≡◌, [], ◌∷◌, OnOk};
 ghost use Rattle.std.specs.List.{AllByRecursion};
 ghost use Rattle.sqlite.specs.State.{HasCleanDisk, IsUnchanged};
 ghost use Rattle.sqlite.specs.Held.{state};
 ghost use Rattle.ledger_reports.specs.declared.answer.StateAnswer.{StateAnswer};
-ghost use Rattle.sqlite_ledger.specs.Answers.{IsSafe, second_of};
+ghost use Rattle.sqlite_ledger.specs.Answers.{AddsAnswers, IsSafe, answer_rows, second_of};
 ghost use Rattle.sqlite_ledger.specs.AnswersSchema.{answers_schema};
 
 use crate::at_rest::check_at_rest;
@@ -44,6 +44,9 @@ fn insert_answer<S: Alter>(
         → conn.old.schema ≡ answers_schema
         → (other : StateAnswer) → IsSafe (state S.Store conn.old).may_leave other
         → IsSafe (state S.Store conn.new).may_leave other }
+    ensures added { HasCleanDisk (state S.Store conn.new) → conn.old.schema ≡ answers_schema
+        → OnOk result (AddsAnswers (answer_rows (state S.Store conn.old)) (answer.now ∷ [])
+        (answer_rows (state S.Store conn.new))) }
     ensures schema { HasCleanDisk (state S.Store conn.new) → conn.old.schema ≡ answers_schema
         → OnOk result (conn.new.schema ≡ answers_schema) }
 {
@@ -89,8 +92,8 @@ pub fn last_number<S: Alter>(conn: &mut Connection<S>) -> Result<u32, LedgerOpen
     Ok(number_in(&rows)?)
 }
 
-/// Appends answers, in their order, with the numbers after `last`. Answers that were there remain,
-/// also if it fails.
+/// Appends answers, in their order, with the numbers after `last`: the table then has one row more
+/// for each. Answers that were there remain, also if it fails.
 ///
 /// Errors: `File`, also if one of the numbers is taken, and `Memory`.
 pub fn add_answers<S: Alter>(
@@ -105,6 +108,9 @@ pub fn add_answers<S: Alter>(
         → conn.old.schema ≡ answers_schema
         → (other : StateAnswer) → IsSafe (state S.Store conn.old).may_leave other
         → IsSafe (state S.Store conn.new).may_leave other }
+    ensures added { HasCleanDisk (state S.Store conn.new) → conn.old.schema ≡ answers_schema
+        → OnOk result (AddsAnswers (answer_rows (state S.Store conn.old)) answers.now
+        (answer_rows (state S.Store conn.new))) }
 {
     let mut number = last;
     'answers: for answer in answers {

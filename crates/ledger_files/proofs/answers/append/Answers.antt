@@ -1,8 +1,8 @@
-use Rattle.std.proofs.Common.{sym, subst}
+use Rattle.std.proofs.Common.{sym, ap, subst}
 use Rattle.sqlite.specs.Held.{Held, state}
 use Rattle.sqlite.specs.State.{HasCleanDisk}
 use Rattle.sqlite_ledger.proofs.InsertStates.{IsSettled}
-use Rattle.sqlite_ledger.specs.Answers.{IsSafe}
+use Rattle.sqlite_ledger.specs.Answers.{IsSafe, answer_rows}
 use Rattle.ledger_files.proofs.AppendedStates.{appends}
 use Rattle.ledger_files.proofs.answers.append.Goals as goal
 
@@ -26,3 +26,6 @@ returns g c =
     (sym (c.open_answers.ensures.unchanged has)))
     c.last_number.ensures.clean c.in_ok-last.ensures.unchanged c.add_answers.ensures.clean
     c.add_answers.ensures.recorded c.add_answers.ensures.remains_recorded
+    (λ has. ap (λ (h : Held _). answer_rows (state g.T.Store h))
+    (c.open_answers.ensures.unchanged has))
+    c.add_answers.ensures.added

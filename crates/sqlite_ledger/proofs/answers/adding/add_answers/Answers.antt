@@ -12,4 +12,5 @@ answers-preserved g c =
       schema = c.in_ok-insert_answer.ensures.schema;
       recorded = c.in_ok-insert_answer.ensures.recorded;
       remains = c.in_ok-insert_answer.ensures.remains_recorded;
+      added = c.in_ok-insert_answer.ensures.added;
     })
