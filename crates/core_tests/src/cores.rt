@@ -91,6 +91,19 @@ pub(crate) fn execute(number: u8) -> Event {
     }
 }
 
+/// Returns a moment of the clock.
+pub(crate) fn moment(now: u32) -> Event {
+    Event::Moment(now)
+}
+
+/// Returns the seconds of a moment of the clock, or 0 for another event.
+pub(crate) fn seconds_of(event: &Event) -> u32 {
+    match event {
+        Event::Moment(now) => *now,
+        _ => 0,
+    }
+}
+
 /// Returns the code of a reply, or 255 if it has none.
 pub(crate) fn code(reply: &Reply) -> u8 {
     match reply {

@@ -1,5 +1,5 @@
 //! A recorder's export, played again, gives the recorder's replies.
-use crate::cores::{MODE, code, execute, set};
+use crate::cores::{MODE, code, execute, moment, set};
 use crate::recorders::{Scenario, code_of, is_done};
 use cosem_axdr::Data;
 use relay_core::{Event, Events, Line, RelayCore, run};
@@ -13,7 +13,7 @@ fn event_at(i: u32) -> Event {
         1 => execute(1),
         2 => execute(2),
         3 => Event::Button,
-        _ => Event::Moment(i),
+        _ => moment(i),
     }
 }
 

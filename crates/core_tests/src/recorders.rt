@@ -1,5 +1,5 @@
 //! The events that a recorder keeps, its current core, and its core before the kept events.
-use crate::cores::{MODE, code, execute, set};
+use crate::cores::{MODE, code, execute, moment, seconds_of, set};
 use crate::exports::plays_again;
 use cosem_axdr::{Data, Octets};
 use disconnect_control::{ControlMode, ControlState};
@@ -65,10 +65,7 @@ fn moment_at(recorder: &Recorder, i: u16) -> u32 {
     if i >= recorder.count() {
         return 0;
     }
-    match recorder.event(i) {
-        Event::Moment(now) => *now,
-        _ => 0,
-    }
+    seconds_of(recorder.event(i))
 }
 
 // Applies the moments 1 to `count`. Returns whether the last `kept` of them are kept, and the two
@@ -80,7 +77,7 @@ fn takes_moments(
     kept: u16,
 ) -> Result<bool, AllocError> {
     for now in 0..count {
-        let _ran = code_of(recorder, alloc, Event::Moment(now.saturating_add(1)))?;
+        let _ran = code_of(recorder, alloc, moment(now.saturating_add(1)))?;
     }
     let before = count.saturating_sub(u32::from(kept));
     Ok(

@@ -68,7 +68,7 @@ fn is_copied(core: &RelayCore, alloc: Global) -> Result<bool, AllocError> {
 /// Returns whether a core is disconnected in mode 1 by events without replies, and so is its copy.
 pub(super) fn advances(core: &mut RelayCore, alloc: Global) -> Result<bool, AllocError> {
     advance(core, alloc, set(MODE, Data::Enum(1)))?;
-    advance(core, alloc, Event::Moment(5))?;
+    advance(core, alloc, moment(5))?;
     advance(core, alloc, execute(1))?;
     Ok(is_disconnected(core) && is_copied(core, alloc)?)
 }

@@ -16,7 +16,7 @@ const SETTINGS: &[(Place, &[u8])] = &[
 
 /// Applies moment 50, and then three pairs of 5001 W and 9001 W.
 fn pass(core: &mut RelayCore, alloc: Global) -> Result<(), AllocError> {
-    let _ran = code_of(core, alloc, Event::Moment(50))?;
+    let _ran = code_of(core, alloc, moment(50))?;
     let Ok(pairs) = Block::from_pairs(alloc, &[5001; 3], &[9001; 3]) else {
         return Err(AllocError);
     };
