@@ -11,7 +11,8 @@ pub enum Reply {
     Value(Data),
     /// To a GetList: a result for each item, in order.
     Values(Listed<GetResult>),
-    /// To a Set, an Execute or a Button: its result. To a Get: why the attribute was not read.
+    /// To a Set, an Execute or a press of a button: its result. To a Get: why the attribute was not
+    /// read.
     Code(ResultCode),
     /// To Samples of imported power only: how often each side of its limiter fired.
     Sampled {
