@@ -77,11 +77,11 @@ calls_of_run first given served o p q kept y start silent s =
     record {
       lawful = y.lawful;
       silent = λ i below. y.own_calls (i ∷ []) (inr (silent i below).0) ∙ (silent i below).1;
-      blocks = source_whole q kept y served _ (first ∷ []) (AllBlocks given.blocks)
+      blocks = source_whole q kept y served _ (first ∷ []) (AllBlocks given.sources.blocks)
           (first_number first o p start) s.blocks;
-      moments = source_whole q kept y served _ ((first + 1) ∷ []) (AllMoments given.moments)
+      moments = source_whole q kept y served _ ((first + 1) ∷ []) (AllMoments given.sources.moments)
           (source_number first o p 1 start) s.moments;
-      presses = source_whole q kept y served _ ((first + 2) ∷ []) (AllPresses given.presses)
+      presses = source_whole q kept y served _ ((first + 2) ∷ []) (AllPresses given.sources.presses)
           (source_number first o p 2 start) s.presses;
       ports = q.known.splits;
       sessions = λ i from below.

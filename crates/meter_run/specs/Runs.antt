@@ -8,13 +8,13 @@
 --     ServesAll   what serving did to the port of the lock
 --     StartsFrom  the port that serving starts from
 --     Traces      the text of the trace of the meter in the lock
-use Rattle.std.specs.Prelude.{◌≡◌, ℕ, ◌+◌, ◌<◌, ◌≤◌, List, [], ◌∷◌, map, Option, Some, IfOk, Result}
+use Rattle.std.specs.Prelude.{◌≡◌, ℕ, ◌+◌, ◌<◌, ◌≤◌, List, [], ◌∷◌, map, Some, IfOk, Result}
 use Rattle.shared_meter.specs.Calls.{Calls, IsLegal, Stands}
 use Rattle.shared_meter.specs.KeptRecorder.{KeptRecorder}
-use Rattle.lane_sampler.specs.Samples.{Samples}
 use Rattle.meter_run.specs.Closing.{FindsTurn}
 use Rattle.meter_server.specs.ServingAll.{Acted, IsServed, OnEnded}
 use Rattle.meter_server.specs.Sessions.{AreAsked, AreSessions}
+use Rattle.meter_server.specs.WithSources.{Forecasts}
 use Rattle.meter_server.specs.declared.serving_all.Served.{Served}
 use Rattle.trace_player.specs.RunTraces.{TellsRun}
 use Rattle.shared_meter.specs.Blocks.{AllBlocks}
@@ -34,9 +34,7 @@ use Rattle.turn_lock.specs.declared.turned.Entry.{Entry}
 
 -- what the meter's own sources give, if they list it, and the password of the management client
 pub record Given : Type 0 where
-  pub blocks : Option (List Samples)
-  pub moments : Option (List ℕ)
-  pub presses : Option ℕ
+  pub sources : Forecasts
   pub password : List ℕ
 
 -- the events of the calls of one port, in order
@@ -53,9 +51,11 @@ pub record AreOfRun (first : ℕ) (origin : Opening) (given : Given)
     (served : Result Served ServeFault) (calls : Calls) : Type 0 where
   pub lawful : IsLegal origin calls
   pub silent : (i : ℕ) → i < first → calls_by (i ∷ []) calls ≡ []
-  pub blocks : OnEnded served (AllBlocks given.blocks (events_in (first ∷ []) calls))
-  pub moments : OnEnded served (AllMoments given.moments (events_in ((first + 1) ∷ []) calls))
-  pub presses : OnEnded served (AllPresses given.presses (events_in ((first + 2) ∷ []) calls))
+  pub blocks : OnEnded served (AllBlocks given.sources.blocks (events_in (first ∷ []) calls))
+  pub moments : OnEnded served
+      (AllMoments given.sources.moments (events_in ((first + 1) ∷ []) calls))
+  pub presses : OnEnded served
+      (AllPresses given.sources.presses (events_in ((first + 2) ∷ []) calls))
   pub ports : ℕ
   pub sessions : (i : ℕ) → first + 3 ≤ i → i < ports
       → AreAsked given.password (events_in (i ∷ []) calls)
@@ -86,11 +86,11 @@ pub record ServesAll (given : Given) (p q : MeterPort) (served : Result Served S
     pub sessions : AreSessions given.password (p.known.splits + 3) q
     pub counted : IfOk served (IsServed (p.known.splits + 3) q.known.splits)
     pub blocks : OnEnded served
-        (Acted q (child p.known.number p.known.splits) (AllBlocks given.blocks))
+        (Acted q (child p.known.number p.known.splits) (AllBlocks given.sources.blocks))
     pub moments : OnEnded served
-        (Acted q (child p.known.number (p.known.splits + 1)) (AllMoments given.moments))
+        (Acted q (child p.known.number (p.known.splits + 1)) (AllMoments given.sources.moments))
     pub presses : OnEnded served
-        (Acted q (child p.known.number (p.known.splits + 2)) (AllPresses given.presses))
+        (Acted q (child p.known.number (p.known.splits + 2)) (AllPresses given.sources.presses))
 
 -- Whether serving starts from the port p: the one of a lock over an opening, from which all others
 -- are split off, `first` of them already. Neither it nor those have made a call.

@@ -27,9 +27,7 @@ use meter_journal::{
     FailureAction, JournalIdentity, JournalProgress, JournalThread, JournalWorker, start_journal,
     stop_journal,
 };
-use meter_server::{
-    BlockSource, ButtonSource, ClientTerms, Listener, MomentSource, ServeFault, Served, Sources,
-};
+use meter_server::{ClientTerms, Listener, OwnSources, ServeFault, Served};
 use program::Fault;
 use relay_recorder::Recorder;
 use shared_meter::{Durability, Kept, PendingLines};
@@ -217,9 +215,7 @@ fn no_run() -> JournaledRun
 // that lock, and the file of the journal.
 fn run_in_lock<
     L: Listener,
-    B: BlockSource + Send + 'static,
-    M: MomentSource + Send + 'static,
-    U: ButtonSource + Send + 'static,
+    S: OwnSources,
     F: DurableFile + Send + 'static,
     A: FailureAction + 'static,
     K: JournalIdentity + Send + Sync + 'static,
@@ -229,7 +225,7 @@ fn run_in_lock<
     alloc: Global,
     meter: (Shared<Kept>, Port<Kept>),
     listener: &mut L,
-    sources: Sources<B, M, U>,
+    sources: S,
     journal: MeterJournal<F, A>,
     terms: &RunTerms<'_>,
 ) -> JournaledRun
@@ -245,12 +241,7 @@ fn run_in_lock<
     ensures run { (recorder : Recording) → meter.1.known ≡ first_known (opening_of recorder.core)
         → IfOk result.trace (IsJournaledRun F.acts_as_file F.identity F.seen F.may_leave F.moment
         F.left_since F.stored F.renews journal.file recorder
-        (record {
-          blocks = B.forecast sources.blocks;
-          moments = M.forecast sources.moments;
-          presses = U.forecast sources.buttons;
-          password = terms.now.password.now;
-        })
+        (record { sources = S.forecasts sources; password = terms.now.password.now })
         result.served result.journal) }
     ensures limit { IfOk result.served (IsLimit terms.now.limit) }
     ensures counted { IfOk result.served (λ served. IsCounted (L.accepted listener.old)
@@ -262,12 +253,7 @@ fn run_in_lock<
     ensures still_out { (recorder : Recording)
         → meter.1.known ≡ first_known (opening_of recorder.core)
         → IsErrOf result.trace Turns → IsLeftOpen 1 recorder
-        (record {
-          blocks = B.forecast sources.blocks;
-          moments = M.forecast sources.moments;
-          presses = U.forecast sources.buttons;
-          password = terms.now.password.now;
-        })
+        (record { sources = S.forecasts sources; password = terms.now.password.now })
         result.served }
     ensures journal { IfErr result.journal (λ fault. (fault ≡ Write) ⊎ (fault ≡ Memory)) }
     ensures acted { ActsOnFailure A.has_acted
@@ -317,9 +303,7 @@ fn run_in_lock<
 /// Otherwise they are as [`run_meter`](crate::run_meter) says.
 pub fn run_journaled_meter<
     L: Listener,
-    B: BlockSource + Send + 'static,
-    M: MomentSource + Send + 'static,
-    U: ButtonSource + Send + 'static,
+    S: OwnSources,
     F: DurableFile + Send + 'static,
     A: FailureAction + 'static,
     R: Threads + Wait + Copy + Send + 'static,
@@ -328,7 +312,7 @@ pub fn run_journaled_meter<
     alloc: Global,
     recorder: Recorder,
     listener: &mut L,
-    sources: Sources<B, M, U>,
+    sources: S,
     journal: MeterJournal<F, A>,
     terms: &RunTerms<'_>,
 ) -> JournaledRun
@@ -339,12 +323,7 @@ pub fn run_journaled_meter<
     ensures run { IfOk result.trace (IsJournaledRun F.acts_as_file F.identity F.seen F.may_leave
         F.moment
         F.left_since F.stored F.renews journal.file recorder
-        (record {
-          blocks = B.forecast sources.blocks;
-          moments = M.forecast sources.moments;
-          presses = U.forecast sources.buttons;
-          password = terms.now.password.now;
-        })
+        (record { sources = S.forecasts sources; password = terms.now.password.now })
         result.served result.journal) }
     ensures limit { IfOk result.served (IsLimit terms.now.limit) }
     ensures counted { IfOk result.served (λ served. IsCounted (L.accepted listener.old)
@@ -354,12 +333,7 @@ pub fn run_journaled_meter<
     ensures fault { IfErr result.served (StopsFor ⊤ (L.has_failed listener.new)) }
     ensures err { IfErr result.trace (λ fault. (fault ≡ Turns) ⊎ (fault ≡ Memory)) }
     ensures still_out { IsErrOf result.trace Turns → IsLeftOpen 1 recorder
-        (record {
-          blocks = B.forecast sources.blocks;
-          moments = M.forecast sources.moments;
-          presses = U.forecast sources.buttons;
-          password = terms.now.password.now;
-        })
+        (record { sources = S.forecasts sources; password = terms.now.password.now })
         result.served }
     ensures journal { IfErr result.journal (λ fault. (fault ≡ Write) ⊎ (fault ≡ Memory)) }
     ensures acted { ActsOnFailure A.has_acted
@@ -367,7 +341,7 @@ pub fn run_journaled_meter<
         result.journal }
 {
     match lock_journaled(alloc, recorder) {
-        Ok(meter) => run_in_lock::<L, B, M, U, F, A, Brand, R>(
+        Ok(meter) => run_in_lock::<L, S, F, A, Brand, R>(
             rt, alloc, meter, listener, sources, journal, terms,
         ),
         Err(_) => {

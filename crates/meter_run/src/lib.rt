@@ -11,5 +11,5 @@ mod running;
 
 pub use closing::close_meter;
 pub use journaled::{JournaledRun, MeterJournal, RunTerms, run_journaled_meter};
-pub use meter_server::Sources;
+pub use meter_server::{OwnSources, Sources};
 pub use running::{MeterRun, run_meter};

@@ -16,10 +16,7 @@ ghost use Rattle.program.specs.declared.fault.Fault.TheVariants.{Memory, Turns};
 
 use crate::closing::close_meter;
 use cosem_axdr::Octets;
-use meter_server::{
-    BlockSource, ButtonSource, ClientTerms, Listener, MomentSource, ServeFault, Served, Sources,
-    serve_all_journaled,
-};
+use meter_server::{ClientTerms, Listener, OwnSources, ServeFault, Served, serve_all_journaled};
 use program::Fault;
 use relay_recorder::Recorder;
 use shared_meter::{Durability, Kept, NoJournal};
@@ -60,16 +57,14 @@ pub(crate) fn lock(alloc: Global, kept: Kept) -> Result<(Shared<Kept>, Port<Kept
 // Serves clients and passes the events of the sources to the meter. Returns the port.
 pub(crate) fn serve<
     L: Listener,
-    B: BlockSource + Send + 'static,
-    M: MomentSource + Send + 'static,
-    U: ButtonSource + Send + 'static,
+    S: OwnSources,
     D: Durability + Send + 'static,
     R: Threads + Wait + Copy + Send + 'static,
 >(
     rt: &R,
     alloc: Global,
     listener: &mut L,
-    sources: Sources<B, M, U>,
+    sources: S,
     port: Port<Kept>,
     terms: &ClientTerms<'_, D>,
 ) -> (Port<Kept>, Result<Served, ServeFault>)
@@ -77,12 +72,7 @@ pub(crate) fn serve<
     requires fits { D.fits port.lock }
     ensures lock { result.0.lock ≡ port.lock }
     ensures serves { ServesAll
-        (record {
-          blocks = B.forecast sources.blocks;
-          moments = M.forecast sources.moments;
-          presses = U.forecast sources.buttons;
-          password = terms.now.password.now;
-        })
+        (record { sources = S.forecasts sources; password = terms.now.password.now })
         port result.0 result.1 }
     ensures journaled { IfSome terms.now.journal
         (λ _. AreJournaled D.is_durable (port.known.splits + 3) result.0) }
@@ -93,6 +83,7 @@ pub(crate) fn serve<
         (L.setup_failures listener.new)) }
     ensures fault { IfErr result.1 (StopsFor ⊤ (L.has_failed listener.new)) }
 {
+    let sources = sources.into_sources();
     match serve_all_journaled(rt, alloc, listener, sources, port, terms) {
         Ok((port, served)) => (port, Ok(served)),
         Err((port, fault)) => (port, Err(fault)),
@@ -148,30 +139,19 @@ pub(crate) fn close_and_export(
 /// unless the count reached `u64::MAX`; and if fewer than eight were served, those turned away are
 /// the ones whose streams could not be set up. The fault `Listen` means that the listener failed;
 /// the serving never ends with `Read` or `Write`.
-pub fn run_meter<
-    L: Listener,
-    B: BlockSource + Send + 'static,
-    M: MomentSource + Send + 'static,
-    U: ButtonSource + Send + 'static,
-    R: Threads + Wait + Copy + Send + 'static,
->(
+pub fn run_meter<L: Listener, S: OwnSources, R: Threads + Wait + Copy + Send + 'static>(
     rt: &R,
     alloc: Global,
     recorder: Recorder,
     listener: &mut L,
-    sources: Sources<B, M, U>,
+    sources: S,
     password: &Octets,
     limit: u64,
 ) -> MeterRun
     requires unused { recorder.events ≡ [] }
     requires password { IsPassword password.now }
     ensures run { IfOk result.trace (IsRun recorder
-        (record {
-          blocks = B.forecast sources.blocks;
-          moments = M.forecast sources.moments;
-          presses = U.forecast sources.buttons;
-          password = password.now;
-        })
+        (record { sources = S.forecasts sources; password = password.now })
         result.served) }
     ensures limit { IfOk result.served (IsLimit limit) }
     ensures counted { IfOk result.served (λ served. IsCounted (L.accepted listener.old)
@@ -181,12 +161,7 @@ pub fn run_meter<
     ensures fault { IfErr result.served (StopsFor ⊤ (L.has_failed listener.new)) }
     ensures err { IfErr result.trace (λ fault. (fault ≡ Turns) ⊎ (fault ≡ Memory)) }
     ensures still_out { IsErrOf result.trace Turns → IsLeftOpen 0 recorder
-        (record {
-          blocks = B.forecast sources.blocks;
-          moments = M.forecast sources.moments;
-          presses = U.forecast sources.buttons;
-          password = password.now;
-        })
+        (record { sources = S.forecasts sources; password = password.now })
         result.served }
 {
     match lock(alloc, Kept::new(recorder)) {

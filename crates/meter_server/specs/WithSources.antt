@@ -1,7 +1,10 @@
 -- Clients that are served in parallel with the workers of some sources of events.
 --     first_then    the events of the source with an index
 --     ServesWith    what serving did to the port
-use Rattle.std.specs.Prelude.{ℕ, zero, suc, ◌+◌, ◌<◌, List, IfOk, Result}
+--     Forecasts     what the meter's own sources have yet to return
+--     no_forecasts  that of sources which declare nothing
+use Rattle.std.specs.Prelude.{ℕ, zero, suc, ◌+◌, ◌<◌, List, Option, None, IfOk, Result}
+use Rattle.lane_sampler.specs.Samples.{Samples}
 use Rattle.meter_server.specs.ServingAll.{Acted, IsServed, OnEnded}
 use Rattle.meter_server.specs.Sessions.{AreSessions}
 use Rattle.meter_server.specs.declared.serving_all.Served.{Served}
@@ -28,3 +31,13 @@ pub record ServesWith (password : List ℕ) (count : ℕ) (CanFollow : ℕ → L
   pub counted : IfOk served (IsServed (p.known.splits + count) q.known.splits)
   pub acted : (i : ℕ) → i < count
       → OnEnded served (Acted q (child p.known.number (p.known.splits + i)) (CanFollow i))
+
+-- what the sources of the meter's own events have yet to return, each if it declares it
+pub record Forecasts : Type 0 where
+  pub blocks : Option (List Samples)
+  pub moments : Option (List ℕ)
+  pub presses : Option ℕ
+
+-- the forecasts of sources of which none declares what it has yet to return
+abbrev pub no_forecasts : Forecasts
+no_forecasts = record { blocks = None; moments = None; presses = None }

@@ -7,7 +7,7 @@ ghost use Rattle.meter_server.specs.ServingAll.{Acted, EndsWith, IsLimit, IsServ
 ghost use Rattle.meter_server.specs.JournaledSessions.{AreJournaled};
 ghost use Rattle.meter_server.specs.Listening.{HaveReasons};
 ghost use Rattle.meter_server.specs.Sessions.{AreSessions};
-ghost use Rattle.meter_server.specs.WithSources.{ServesWith, first_then};
+ghost use Rattle.meter_server.specs.WithSources.{Forecasts, ServesWith, first_then};
 ghost use Rattle.shared_meter.specs.Blocks.{AllBlocks};
 ghost use Rattle.shared_meter.specs.Sources.{AllMoments, AllPresses};
 ghost use Rattle.port_threads.specs.Listening.{IsCounted};
@@ -38,15 +38,6 @@ pub struct Served {
     pub turned_away: u64,
 }
 
-/// The sources of the meter's own events: blocks of power samples, moments of the clock, presses of
-/// the button.
-#[derive(Drop)]
-pub struct Sources<B, M, U> {
-    pub blocks: B,
-    pub moments: M,
-    pub buttons: U,
-}
-
 /// The terms on which clients are served.
 #[derive(Drop)]
 pub struct ClientTerms<'a, D> {
@@ -58,6 +49,61 @@ pub struct ClientTerms<'a, D> {
     /// It must be the journal of a meter that notes its lines (`Kept::with_journal`): with one that
     /// does not, each session ends at its first event.
     pub journal: Option<D>,
+}
+
+/// The sources of the meter's own events: blocks of power samples, moments of the clock, presses of
+/// the button.
+#[derive(Drop)]
+pub struct Sources<B, M, U> {
+    pub blocks: B,
+    pub moments: M,
+    pub buttons: U,
+}
+
+/// The sources of the meter's own events, as one value.
+pub trait OwnSources: Drop {
+    /// The source of blocks of power samples.
+    type Blocks: BlockSource + Send + 'static;
+
+    /// The source of moments of the clock.
+    type Moments: MomentSource + Send + 'static;
+
+    /// The source of presses of the button.
+    type Presses: ButtonSource + Send + 'static;
+
+    /// What the sources have yet to return, each if it declares it.
+    ghost forecasts: { Self → Forecasts };
+
+    /// Returns the sources.
+    fn into_sources(self) -> Sources<Self::Blocks, Self::Moments, Self::Presses>
+        ensures { forecasts self ≡ record {
+          blocks = Self.Blocks.forecast result.blocks;
+          moments = Self.Moments.forecast result.moments;
+          presses = Self.Presses.forecast result.buttons;
+        } };
+}
+
+impl<B, M, U> OwnSources for Sources<B, M, U>
+where
+    B: BlockSource + Send + 'static,
+    M: MomentSource + Send + 'static,
+    U: ButtonSource + Send + 'static,
+{
+    type Blocks = B;
+
+    type Moments = M;
+
+    type Presses = U;
+
+    ghost forecasts = { λ sources. record {
+      blocks = B.forecast sources.blocks;
+      moments = M.forecast sources.moments;
+      presses = U.forecast sources.buttons;
+    } };
+
+    fn into_sources(self) -> Sources<B, M, U> {
+        self
+    }
 }
 
 // Returns the first fault in this order: out of memory, the fault of the worker, the fault of the

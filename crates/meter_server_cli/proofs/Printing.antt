@@ -1,8 +1,9 @@
 -- A trace that was printed.
-use Rattle.std.proofs.Common.{ℕ, List, Option, None, Result, Ok, Err, IfOk}
+use Rattle.std.proofs.Common.{ℕ, List, Option, Result, Ok, Err, IfOk}
 use Rattle.std.specs.Prelude.{OnOk}
 use Rattle.meter_run.specs.Journaled.{IsJournaledRun}
 use Rattle.meter_run.specs.Runs.{Given, IsRun}
+use Rattle.meter_server.specs.WithSources.{no_forecasts}
 use Rattle.meter_server.specs.declared.serving_all.Served.{Served}
 use Rattle.meter_server_cli.specs.Endings.{Prints, PrintsText, PrintsTrace}
 use Rattle.program.specs.declared.fault.Fault.{Fault}
@@ -11,7 +12,7 @@ use Rattle.session_io.specs.declared.fault.ServeFault.{ServeFault}
 
 -- what the meter's own sources give, if none lists it, and the password
 abbrev pub given : List ℕ → Given
-given password = record { blocks = None; moments = None; presses = None; password = password }
+given password = record { sources = no_forecasts; password = password }
 
 -- a text of a kind was printed, if the trace has this kind
 pub prints : (IsText : List ℕ → Type 0) (trace : Result (List ℕ) Fault)

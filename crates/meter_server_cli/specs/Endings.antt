@@ -7,6 +7,7 @@ use Rattle.std.specs.Prelude.{◌≡◌, ℕ, zero, suc, Bool, true, false, Opti
 use Rattle.std.specs.Io.KnownBytes.{Appends}
 use Rattle.meter_console.specs.Ends.{has_failed, lost_lines}
 use Rattle.meter_console.specs.declared.running.ConsoleEnd.{ConsoleEnd}
+use Rattle.meter_server.specs.WithSources.{no_forecasts}
 use Rattle.meter_run.specs.Runs.{IsRunFrom}
 use Rattle.meter_server.specs.declared.serving_all.Served.{Served}
 use Rattle.program.specs.declared.fault.Fault.{Fault}
@@ -47,5 +48,5 @@ pub record PrintsTrace (recorder : Recording) (password : List ℕ)
   pub first : ℕ
   pub served : Result Served ServeFault
   pub prints : PrintsText (IsRunFrom first recorder
-      (record { blocks = None; moments = None; presses = None; password = password }) served)
+      (record { sources = no_forecasts; password = password }) served)
       written written'

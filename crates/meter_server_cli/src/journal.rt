@@ -2,6 +2,7 @@
 ghost use Rattle.std.specs.Prelude.{◌≡◌, None, OnOk, length};
 ghost use Rattle.durable_lines.specs.Lines.{IsSettled};
 ghost use Rattle.meter_run.specs.Journaled.{IsJournaledRun};
+ghost use Rattle.meter_server.specs.WithSources.{no_forecasts};
 ghost use Rattle.meter_server_cli.specs.Endings.{PrintsText};
 
 use crate::ending::print_trace;
@@ -99,7 +100,7 @@ pub(crate) fn run_journaled<
         (PrintsText (IsJournaledRun F.acts_as_file F.identity F.seen F.may_leave F.moment
         F.left_since
         F.stored F.renews parts.journal.file recorder
-        (record { blocks = None; moments = None; presses = None; password = meter.now.password })
+        (record { sources = no_forecasts; password = meter.now.password })
         result.0 result.1)
         (W.contents output.old) (W.contents output.new)) }
 {

@@ -2,6 +2,7 @@
 ghost use Rattle.std.specs.Prelude.{◌≡◌, None, OnOk, length};
 ghost use Rattle.acse_ber.specs.Password.{IsPassword};
 ghost use Rattle.meter_run.specs.Runs.{IsRun};
+ghost use Rattle.meter_server.specs.WithSources.{no_forecasts};
 ghost use Rattle.meter_server_cli.specs.Endings.{PrintsText, PrintsTrace};
 
 use crate::ending::{Ends, print_trace, run_fault};
@@ -85,7 +86,7 @@ fn run_and_print<R: Threads + Wait + Copy + Drop + Send + 'static, W: Write>(
     requires unused { length recorder.events ≡ 0 }
     ensures { OnOk result.1
         (PrintsText (IsRun recorder
-        (record { blocks = None; moments = None; presses = None; password = meter.now.password })
+        (record { sources = no_forecasts; password = meter.now.password })
         result.0)
         (W.contents output.old) (W.contents output.new)) }
 {

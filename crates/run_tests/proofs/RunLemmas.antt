@@ -11,9 +11,11 @@ use Rattle.session_io.specs.declared.fault.ServeFault.{ServeFault}
 -- the lists, as `IsRun` takes them
 abbrev given_by : Lists → Given
 given_by lists = record {
-  blocks = Some lists.blocks;
-  moments = Some lists.moments;
-  presses = Some lists.presses;
+  sources = record {
+    blocks = Some lists.blocks;
+    moments = Some lists.moments;
+    presses = Some lists.presses;
+  };
   password = lists.password;
 }
 

@@ -23,7 +23,7 @@ pub fn fits_line(event: &Event) -> bool
         Event::GetList { items, .. } => items.len() <= MAX_ITEMS,
         Event::Set { value, .. } => is_held(value),
         Event::Execute { parameter, .. } => is_parameter_held(parameter),
-        Event::Get { .. } | Event::Button | Event::Samples(_) | Event::Moment(_) => true,
+        _ => true,
     }
 }
 
@@ -55,9 +55,9 @@ pub fn event_is_traced(event: &Event)
         Event::GetList { items, .. } => attributes_are_named(items.as_slice()),
         Event::Set { attr, .. } => attribute_is_named(attr),
         Event::Execute { method, .. } => method_is_named(method),
-        Event::Button => {}
         Event::Samples(block) => block_is_traced(block),
         Event::Moment(now) => look_at(*now),
+        _ => {}
     }
 }
 
@@ -73,7 +73,7 @@ pub(crate) fn event_is_named(event: &Event)
         }
         Event::Set { attr, .. } => attribute_is_named(attr),
         Event::Execute { method, .. } => method_is_named(method),
-        Event::Button | Event::Samples(_) | Event::Moment(_) => {}
+        _ => {}
     }
 }
 

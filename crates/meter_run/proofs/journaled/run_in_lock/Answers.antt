@@ -20,9 +20,7 @@ returns-clause-run g c = λ recorder known.
     D.renews D.has_failed g.K.JournalIdentity.may_end g.A.FailureAction.has_acted
     c.args.journal.file g.K.JournalIdentity.file g.K.JournalIdentity.first
     c.requires.file recorder (record {
-      blocks = g.B.BlockSource.forecast c.args.sources.blocks;
-      moments = g.M.MomentSource.forecast c.args.sources.moments;
-      presses = g.U.ButtonSource.forecast c.args.sources.buttons;
+      sources = g.S.OwnSources.forecasts c.args.sources;
       password = c.args.terms.now.password.now;
     }) c.serve-port.result.1 c.finish-trace.result.0 c.finish-trace.result.1
     started.running.promise.port.value
@@ -48,9 +46,7 @@ returns-clause-still_out g c = λ recorder known busy.
     left_open_journaled D.acts_as_file D.identity D.seen D.may_leave D.moment D.left_since D.stored
     D.renews D.has_failed g.K.JournalIdentity.may_end g.A.FailureAction.has_acted
     task.worker.value recorder (record {
-      blocks = g.B.BlockSource.forecast c.args.sources.blocks;
-      moments = g.M.MomentSource.forecast c.args.sources.moments;
-      presses = g.U.ButtonSource.forecast c.args.sources.buttons;
+      sources = g.S.OwnSources.forecasts c.args.sources;
       password = c.args.terms.now.password.now;
     }) c.serve-port.result.1 c.finish-trace.result.0 c.finish-trace.result.1 task.port.value
     started.port c.serve-port.result.0 (c.in-Some.ensures.starts _ known)
