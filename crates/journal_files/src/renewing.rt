@@ -26,19 +26,7 @@ use relay_events::{Event, Events};
 use relay_recorder::Trace;
 use std::alloc::{AllocError, Global};
 use trace_lines::fits_line;
-use trace_player::{MAX_BYTES, is_journal, read_trace, write_journal};
-
-// Applies events to a core, one after the other.
-fn take_events(alloc: Global, core: &mut RelayCore, events: &[Event]) -> Result<(), AllocError>
-    ensures { OnOk result ((w : World) → StandsFor core.old w
-        → StandsFor core.new (world_after events.now w)) }
-{
-    'events: for event in events {
-        let reply = core.step(alloc, event)?;
-        drop(reply);
-    }
-    Ok(())
-}
+use trace_player::{MAX_BYTES, apply_events, is_journal, read_trace, write_journal};
 
 // Applies events to a core, and returns its saved state after them.
 fn apply_and_save(
@@ -51,7 +39,7 @@ fn apply_and_save(
     ensures agrees { IfOk result (λ opening. (w : World) → StandsFor core.old w
         → Agree (world_of_opening opening) (world_after events.now w)) }
 {
-    take_events(alloc, core, events)?;
+    apply_events(alloc, core, events)?;
     core.to_opening(alloc)
 }
 

@@ -29,6 +29,6 @@ pub use laws::{
 pub use player::play;
 pub use reading::{MAX_BYTES, read_trace};
 pub use relay_recorder::Trace;
-pub use resuming::resume_recorder;
+pub use resuming::{apply_events, resume_recorder};
 pub use trace_words::TraceFault;
 pub use writing::write_trace;

@@ -13,8 +13,10 @@ use relay_events::Event;
 use relay_recorder::{Recorder, Trace};
 use std::alloc::{AllocError, Global};
 
-// Applies events to a core, one after the other.
-fn take_events(alloc: Global, core: &mut RelayCore, events: &[Event]) -> Result<(), AllocError>
+/// Applies events to a core, one after the other, and drops the replies.
+///
+/// Fails only if out of memory; some of the events may then have been applied.
+pub fn apply_events(alloc: Global, core: &mut RelayCore, events: &[Event]) -> Result<(), AllocError>
     ensures { OnOk result ((w : World) → StandsFor core.old w
         → StandsFor core.new (world_after events.now w)) }
 {
@@ -42,7 +44,7 @@ pub fn resume_recorder(alloc: Global, trace: &Trace, capacity: u16) -> Result<Re
     // (no effect: the contract needs this law)
     opening_has_range(&trace.opening);
     let mut core = RelayCore::from_fit_opening(alloc, &trace.opening)?;
-    match take_events(alloc, &mut core, trace.events.as_slice()) {
+    match apply_events(alloc, &mut core, trace.events.as_slice()) {
         Ok(()) => Recorder::from_core(alloc, core, capacity),
         Err(error) => {
             drop(core);

@@ -1,6 +1,6 @@
 use Rattle.std.proofs.Common.{◌<◌, length, arith}
 use Rattle.trace_player.proofs.Taking.{took_more}
-use Rattle.trace_player.proofs.resuming.take_events.Goals as goal
+use Rattle.trace_player.proofs.resuming.apply_events.Goals as goal
 
 pub events-preserved : goal.events-preserved
 events-preserved c =

@@ -1,7 +1,0 @@
--- The first events were applied.
-use Rattle.std.proofs.Common.{take}
-use Rattle.trace_player.proofs.Taking.{Took}
-use Rattle.journal_files.proofs.renewing.take_events.Given as goal
-
-abbrev pub invariant-events : goal.invariant-events
-invariant-events l = Took l.initial.core l.core (take l.event-index l.events)
