@@ -5,7 +5,7 @@ use Rattle.meter_run.specs.Journaled.{IsJournaledRun}
 use Rattle.meter_run.specs.Runs.{Given, IsRun}
 use Rattle.meter_server.specs.WithSources.{no_forecasts}
 use Rattle.meter_server.specs.declared.serving_all.Served.{Served}
-use Rattle.meter_server_cli.specs.Endings.{Prints, PrintsText, PrintsTrace}
+use Rattle.meter_server_cli.specs.Endings.{HasEnded, Prints, PrintsRun, PrintsText, PrintsTrace}
 use Rattle.program.specs.declared.fault.Fault.{Fault}
 use Rattle.relay_recorder.specs.Recording.{Recording}
 use Rattle.session_io.specs.declared.fault.ServeFault.{ServeFault}
@@ -28,9 +28,9 @@ prints IsText (Err fault) (Err other) before after kind same = tt
 pub run_printed : (recorder : Recording) (password : List ℕ) (served : Result Served ServeFault)
     (result : Result (Unit {0}) Fault) (before after : Option (List ℕ))
     → OnOk result (PrintsText (IsRun recorder (given password) served) before after)
-    → OnOk result (PrintsTrace recorder password before after)
+    → OnOk result (PrintsRun recorder password served before after)
 run_printed recorder password served (Ok done) before after printed =
-    record { first = 0; served = served; prints = printed }
+    record { first = 0; prints = printed }
 run_printed recorder password served (Err fault) before after printed = tt
 
 -- the trace of a run was printed, if that of a run with a journal was
@@ -41,11 +41,10 @@ pub journaled_printed : {F : Type 0} (acts : Type 0) (identity : F → ℕ) (see
     (journal result : Result (Unit {0}) Fault) (before after : Option (List ℕ))
     → OnOk result (PrintsText (IsJournaledRun acts identity seen may_leave moment left_since stored
     Renews file recorder (given password) served journal) before after)
-    → OnOk result (PrintsTrace recorder password before after)
+    → OnOk result (PrintsRun recorder password served before after)
 journaled_printed acts identity seen may_leave moment left_since stored Renews file recorder
     password served journal (Ok done) before after printed = record {
       first = 1;
-      served = served;
       prints = record {
         text = printed.text;
         kind = printed.kind.run;
@@ -54,3 +53,14 @@ journaled_printed acts identity seen may_leave moment left_since stored Renews f
     }
 journaled_printed acts identity seen may_leave moment left_since stored Renews file recorder
     password served journal (Err fault) before after printed = tt
+
+-- the trace of a run without a fault was printed, if that of this run was, and it had no fault
+pub trace_printed : (recorder : Recording) (password : List ℕ) (served : Result Served ServeFault)
+    (ended result : Result (Unit {0}) Fault) (before after : Option (List ℕ))
+    → OnOk ended (HasEnded served) → OnOk result (PrintsRun recorder password served before after)
+    → OnOk result (OnOk ended (PrintsTrace recorder password before after))
+trace_printed recorder password served (Ok done) (Ok printed) before after has_ended run =
+    record { served = served; ended = has_ended; run = run }
+trace_printed recorder password served (Ok done) (Err fault) before after has_ended run = tt
+trace_printed recorder password served (Err fault) (Ok printed) before after has_ended run = tt
+trace_printed recorder password served (Err fault) (Err other) before after has_ended run = tt

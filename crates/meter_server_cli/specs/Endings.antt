@@ -2,8 +2,10 @@
 --     end_of_console    the fault of the console
 --     Prints            the text of a trace was printed
 --     PrintsText        a text of this kind was printed
---     PrintsTrace       the text of the trace of a run was printed
-use Rattle.std.specs.Prelude.{◌≡◌, ℕ, zero, suc, Bool, true, false, Option, Some, None, List, Result, Ok, Err}
+--     PrintsRun         the text of the trace of a run was printed
+--     HasEnded          serving ended without a fault
+--     PrintsTrace       the text of the trace of a run without a fault was printed
+use Rattle.std.specs.Prelude.{◌≡◌, ⊤, ℕ, zero, suc, Bool, true, false, Option, Some, None, List, Result, Ok, Err}
 use Rattle.std.specs.Io.KnownBytes.{Appends}
 use Rattle.meter_console.specs.Ends.{has_failed, lost_lines}
 use Rattle.meter_console.specs.declared.running.ConsoleEnd.{ConsoleEnd}
@@ -14,6 +16,7 @@ use Rattle.program.specs.declared.fault.Fault.{Fault}
 use Rattle.program.specs.declared.fault.Fault.TheVariants as fault
 use Rattle.relay_recorder.specs.Recording.{Recording}
 use Rattle.session_io.specs.declared.fault.ServeFault.{ServeFault}
+use Rattle.session_io.specs.declared.fault.ServeFault.TheVariants as serve
 
 -- the fault of a console that lost this number of lines and may have failed to read; lost lines
 -- take precedence
@@ -41,12 +44,25 @@ pub record PrintsText (IsText : List ℕ → Type 0) (written written' : Option 
   pub printed : Appends written written' text
 
 -- Whether the text of the trace of a run was printed completely: a run of the meter with this
--- recorder, whose management client has this password. The ports before `first` are not those of
--- sources and sessions.
-pub record PrintsTrace (recorder : Recording) (password : List ℕ)
+-- recorder, whose management client has this password, and whose serving ended in this way. The
+-- ports before `first` are not those of sources and sessions.
+pub record PrintsRun (recorder : Recording) (password : List ℕ) (served : Result Served ServeFault)
     (written written' : Option (List ℕ)) : Type 0 where
   pub first : ℕ
-  pub served : Result Served ServeFault
   pub prints : PrintsText (IsRunFrom first recorder
       (record { sources = no_forecasts; password = password }) served)
       written written'
+
+-- whether serving ended without a fault: all its connections were served or turned away, or its
+-- listener ended
+abbrev pub HasEnded : Result Served ServeFault → Type 0
+HasEnded (Ok all) = ⊤
+HasEnded (Err serve.Listen) = ⊤
+HasEnded (Err other) = ⊥
+
+-- whether the text of the trace of a run whose serving ended without a fault was printed completely
+pub record PrintsTrace (recorder : Recording) (password : List ℕ)
+    (written written' : Option (List ℕ)) : Type 0 where
+  pub served : Result Served ServeFault
+  pub ended : HasEnded served
+  pub run : PrintsRun recorder password served written written'

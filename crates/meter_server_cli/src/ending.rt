@@ -1,7 +1,7 @@
 //! The end of `serve`: prints the trace, and decides which fault is reported.
 ghost use Rattle.std.specs.Prelude.{◌≡◌, false, true, Ok, Err, OnOk};
 ghost use Rattle.program.specs.Ends.{first_of};
-ghost use Rattle.meter_server_cli.specs.Endings.{end_of_console, Prints};
+ghost use Rattle.meter_server_cli.specs.Endings.{HasEnded, Prints, end_of_console};
 
 use cosem_axdr::Octets;
 use meter_console::ConsoleEnd;
@@ -13,6 +13,7 @@ use std::io::Write;
 // `ServeFault::Listen` is a fault only if the listener failed; else the server itself stopped it,
 // because standard input had ended.
 pub(crate) fn run_fault(served: Result<Served, ServeFault>, has_failed: bool) -> Result<(), Fault>
+    ensures has_ended { OnOk result (HasEnded served) }
     ensures served { OnOk served (result ≡ Ok tt) }
     ensures ended { served ≡ Err ServeFault.Listen → has_failed ≡ false → result ≡ Ok tt }
     ensures listen { served ≡ Err ServeFault.Listen → has_failed ≡ true

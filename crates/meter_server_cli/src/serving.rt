@@ -3,7 +3,7 @@ ghost use Rattle.std.specs.Prelude.{◌≡◌, None, OnOk, length};
 ghost use Rattle.acse_ber.specs.Password.{IsPassword};
 ghost use Rattle.meter_run.specs.Runs.{IsRun};
 ghost use Rattle.meter_server.specs.WithSources.{no_forecasts};
-ghost use Rattle.meter_server_cli.specs.Endings.{PrintsText, PrintsTrace};
+ghost use Rattle.meter_server_cli.specs.Endings.{PrintsRun, PrintsText, PrintsTrace};
 
 use crate::ending::{Ends, print_trace, run_fault};
 use crate::journal::{JournaledParts, ServerEnd, run_journaled};
@@ -228,7 +228,7 @@ where
     S::Dir: Send + 'static,
     requires unused { length recorder.events ≡ 0 }
     requires unclaimed { F.acts_as_file → ⊥ }
-    ensures printed { OnOk result.2 (PrintsTrace recorder meter.now.password
+    ensures printed { OnOk result.2 (PrintsRun recorder meter.now.password result.0
         (W.contents output.old) (W.contents output.new)) }
 {
     run_journaled(rt, threads, output, listening, recorder, parts, meter)
@@ -256,7 +256,7 @@ fn run_on_relay<
 where
     S::Dir: Send + 'static,
     requires unused { length recorder.events ≡ 0 }
-    ensures printed { OnOk result.2 (PrintsTrace recorder meter.now.password
+    ensures printed { OnOk result.2 (PrintsRun recorder meter.now.password result.0
         (W.contents output.old) (W.contents output.new)) }
 {
     run_journaled(rt, threads, output, listening, recorder, parts, meter)
@@ -281,8 +281,8 @@ fn serve_and_print<
 where
     S::Dir: Send + 'static,
     requires { length recorder.events ≡ 0 }
-    ensures printed { OnOk result.2 (PrintsTrace recorder meter.now.password
-        (W.contents output.old) (W.contents output.new)) }
+    ensures printed { OnOk result.2 (OnOk result.0 (PrintsTrace recorder meter.now.password
+        (W.contents output.old) (W.contents output.new))) }
 {
     let (mut accepting, sources, end) = server;
     let listening = &mut accepting;
