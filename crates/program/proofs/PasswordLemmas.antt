@@ -1,5 +1,5 @@
 -- Why a file has no password, and the program's fault.
-use Rattle.std.proofs.Common.{◌≡◌, ◌≢◌, ◌⊎◌, inl, inr, ℕ, true, false, ◌==◌, Option, Result}
+use Rattle.std.proofs.Common.{◌≡◌, ◌≢◌, ◌⊎◌, ◌≤◌, inl, inr, ℕ, true, false, ◌==◌, Option, Result}
 use Rattle.std.proofs.Common.{Ok, Err, IfErr, List, [], ◌∷◌, ◌++◌, length, get_or}
 use Rattle.std.proofs.Common.{refl, sym, ap, ◌∙◌, subst, arith}
 use Rattle.std.proofs.lemmas.Bool.{ne_eqb}
@@ -33,6 +33,16 @@ same_line bytes line text (inr whole) one_line (inr same) = absurd (whole.1 text
 
 line_is : (bytes line text : List ℕ) → SplitsLineEnd bytes line → IsFileOf text bytes → text ≡ line
 line_is bytes line text split file = same_line bytes line text split file.one_line file.bytes_are
+
+-- the line of a small file is small
+pub line_within_max : (text bytes : List ℕ) → IsFileOf text bytes → length bytes ≤ 1024
+    → length text ≤ 1024
+line_within_max text bytes file within_max = within (file.bytes_are)
+  where
+    within : (bytes ≡ text) ⊎ (bytes ≡ text ++ 10 ∷ []) → length text ≤ 1024
+    within (inl same) = omega (arith, within_max, ap (λ (l : List ℕ). length l) same)
+    within (inr same) =
+        omega (arith, within_max, ap (λ (l : List ℕ). length l) same, length_push text 10)
 
 -- a file with another byte 0A has no line
 pub further_line : (bytes line : List ℕ) → SplitsLineEnd bytes line

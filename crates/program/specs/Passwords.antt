@@ -1,16 +1,21 @@
--- A password in a file.
---     HasNoLineEnd     a text that is one line
---     SplitsLineEnd    bytes without the byte 0A that may end them
---     IsFileOf         the bytes of a file that has one line
---     IsExposed        the permissions of a file that others than its owner may use
---     IsLineFault      why the bytes of a file are not one line
---     ReadsLine        a file was read to its end, and has one line
---     IsFileFault      why a file gave no password
---     fault_of         the program's fault for a file without a password
---     is_of_files      the program's faults that a file without a password can have
-use Rattle.std.specs.Prelude.{◌≡◌, ◌≢◌, ◌⊎◌, ◌<◌, ◌%◌, ℕ, Bool, true, false, Option, ⊤}
+-- A password in a file or in the environment.
+--     HasNoLineEnd       a text that is one line
+--     SplitsLineEnd      bytes without the byte 0A that may end them
+--     IsFileOf           the bytes of a file that has one line
+--     IsExposed          the permissions of a file that others than its owner may use
+--     IsLineFault        why the bytes of a file are not one line
+--     ReadsLine          a file was read to its end, and has one line
+--     IsFileFault        why a file gave no password
+--     fault_of           the program's fault for a file without a password
+--     is_of_files        the program's faults that a file without a password can have
+--     variable_password  what the environment's variable gives, by how it was read
+--     IsOfVariable       what the environment's variable can give
+use Rattle.std.specs.Prelude.{◌≡◌, ◌≢◌, ◌⊎◌, ◌<◌, ◌≤◌, ◌%◌, ℕ, Bool, true, false, ⊤}
+use Rattle.std.specs.Prelude.{Option, Some, None, Result, Ok, Err}
 use Rattle.std.specs.Prelude.{List, [], ◌∷◌, ◌++◌, All, length, IsUtf8}
 use Rattle.std.specs.Io.KnownBytes.{Consumes, IsAtEnd}
+use Rattle.std.specs.declared.env.VarError.{VarError}
+use Rattle.std.specs.declared.env.VarError.TheVariants as variable
 use Rattle.program.specs.declared.fault.Fault.{Fault}
 use Rattle.program.specs.declared.fault.Fault.TheVariants as fault
 use Rattle.program.specs.declared.password.PasswordFault.{PasswordFault}
@@ -44,11 +49,12 @@ IsLineFault bytes password.Exposed = ⊥
 IsLineFault bytes password.Line = (text : List ℕ) → IsUtf8 text → ¬ (IsFileOf text bytes)
 IsLineFault bytes password.Memory = ⊤
 
--- whether a file was read to its end, and its bytes are this one line
+-- whether a file was read to its end, and its bytes, at most 1,024, are this one line
 pub record ReadsLine (left left' : Option (List ℕ)) (text : List ℕ) : Type 0 where
   pub bytes : List ℕ
   pub read : Consumes left left' bytes
   pub at_end : IsAtEnd left'
+  pub within_max : length bytes ≤ 1024
   pub is_file : IsFileOf text bytes
 
 -- whether the bytes that were read of a file are more than 1,024, or they are all and not one line
@@ -79,3 +85,16 @@ is_of_files fault.Input = true
 is_of_files fault.Read = true
 is_of_files fault.Memory = true
 is_of_files _ = false
+
+-- what the environment's variable gives, by how it was read: its text, `None` if it is not set, or
+-- the program's fault: it is not UTF-8, or memory ran out
+abbrev pub variable_password : {T : Type 0} → Result T VarError → Result (Option T) Fault
+variable_password (Ok text) = Ok (Some text)
+variable_password (Err variable.NotPresent) = Ok None
+variable_password (Err variable.NotUnicode) = Err fault.Input
+variable_password (Err variable.OutOfMemory) = Err fault.Memory
+
+-- whether the environment's variable gives this, by how it was read
+pub record IsOfVariable {T : Type 0} (password : Result (Option T) Fault) : Type 0 where
+  pub variable : Result T VarError
+  pub is : password ≡ variable_password variable

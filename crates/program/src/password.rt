@@ -1,9 +1,10 @@
 //! A password in the environment, or in a file, so that neither a command line nor the environment
 //! shows it.
-ghost use Rattle.std.specs.Prelude.{◌≡◌, ◌↔◌, Err, true, IfOk, IfErr, IsTrue, string_bytes};
+ghost use Rattle.std.specs.Prelude.{◌≡◌, ◌≤◌, ◌↔◌, Err, true, IfOk, IfErr, IsTrue, length};
+ghost use Rattle.std.specs.Prelude.{string_bytes};
 ghost use Rattle.program.specs.Passwords.{HasNoLineEnd, IsExposed, IsFileFault, IsFileOf};
-ghost use Rattle.program.specs.Passwords.{IsLineFault, ReadsLine, SplitsLineEnd, fault_of};
-ghost use Rattle.program.specs.Passwords.{is_of_files};
+ghost use Rattle.program.specs.Passwords.{IsLineFault, IsOfVariable, ReadsLine, SplitsLineEnd};
+ghost use Rattle.program.specs.Passwords.{fault_of, is_of_files, variable_password};
 
 use crate::fault::Fault;
 use counted_io::{Counted, InputFault, Reader, read_to_end_within};
@@ -70,25 +71,33 @@ pub fn is_password_in_environment<R: Env + AllocGlobal>(rt: &R) -> bool {
     !matches!(env::var(rt, PASSWORD_VARIABLE), Err(VarError::NotPresent))
 }
 
+// Returns what the variable of the password gives, by how it was read. Errors: `Input` if it is not
+// UTF-8, `Memory`.
+fn variable_password(variable: Result<String, VarError>) -> Result<Option<String>, Fault>
+    ensures { result ≡ variable_password variable }
+{
+    match variable {
+        Ok(text) => Ok(Some(text)),
+        Err(VarError::NotPresent) => Ok(None),
+        Err(VarError::NotUnicode) => Err(Fault::Input),
+        Err(VarError::OutOfMemory) => Err(Fault::Memory),
+    }
+}
+
 /// Returns the password of the environment, or `None` if it has no variable `METER_PASSWORD`.
 /// Errors: `Input` if it is not UTF-8, with a line on standard error if `is_verbose`; `Memory`.
 pub fn environment_password<R: Env + AllocGlobal + Eprint>(
     rt: &R,
     is_verbose: bool,
 ) -> Result<Option<String>, Fault>
-    ensures { IfErr result (λ fault. is_of_files fault ≡ true) }
+    ensures variable { IsOfVariable result }
+    ensures err { IfErr result (λ fault. is_of_files fault ≡ true) }
 {
-    match env::var(rt, PASSWORD_VARIABLE) {
-        Ok(text) => Ok(Some(text)),
-        Err(VarError::NotPresent) => Ok(None),
-        Err(VarError::OutOfMemory) => Err(Fault::Memory),
-        Err(_) => {
-            if is_verbose {
-                let _ = eprintln!(rt; "METER_PASSWORD: expected UTF-8 text");
-            }
-            Err(Fault::Input)
-        }
+    let password = variable_password(env::var(rt, PASSWORD_VARIABLE));
+    if is_verbose && matches!(password, Err(Fault::Input)) {
+        let _ = eprintln!(rt; "METER_PASSWORD: expected UTF-8 text");
     }
+    password
 }
 
 /// Returns whether others than the owner of a file of this mode may read, change or run it.
@@ -160,12 +169,14 @@ fn read_open_file<R: Reader>(
 /// may read, change or run it; `Line` if it has more than 1,024 bytes, or `Read`; `Line` if it is
 /// not one line of UTF-8 text. `Memory` can occur at any point. No contract can say what a file of
 /// the operating system has, so the order is tested.
+#[tactic(auto, using(crate::proofs::PasswordLemmas::line_within_max))]
 pub fn read_password<R: Files<File = File>>(
     files: &R,
     alloc: Global,
     path: &str,
 ) -> Result<String, PasswordFault>
-    ensures { IfOk result (λ text. HasNoLineEnd (string_bytes text)) }
+    ensures one_line { IfOk result (λ text. HasNoLineEnd (string_bytes text)) }
+    ensures within_max { IfOk result (λ text. length (string_bytes text) ≤ 1024) }
 {
     let file = File::open(files, path).map_err(|_| PasswordFault::Read)?;
     let metadata = file.metadata().map_err(|_| PasswordFault::Read)?;
@@ -180,6 +191,7 @@ pub fn read_password_file<R: AllocGlobal + Eprint + Files<File = File>>(
     path: &str,
 ) -> Result<String, Fault>
     ensures one_line { IfOk result (λ text. HasNoLineEnd (string_bytes text)) }
+    ensures within_max { IfOk result (λ text. length (string_bytes text) ≤ 1024) }
     ensures err { IfErr result (λ fault. is_of_files fault ≡ true) }
 {
     match read_password(rt, rt.alloc(), path) {
