@@ -1,23 +1,13 @@
 -- The values of the options of `run` and `ask`.
---     IsNumber     the number of an option
 --     IsLimit      the time limit of an option
 --     AreLimits    both time limits
 --     AreWorkers   the number of workers
-use Rattle.std.specs.Prelude.{◌≡◌, ◌<◌, ◌≤◌, ◌^◌, ◌*◌, ◌==◌, ℕ, codes, List, Some, if◌then◌else◌}
+use Rattle.std.specs.Prelude.{◌≡◌, ◌≤◌, ◌*◌, ◌==◌, ℕ, codes, List, if◌then◌else◌}
 use Rattle.std.specs.Duration.{as_nanos}
-use Rattle.std.specs.Str.Parse.{IsNumeral, digits_value, without_leading_plus}
 use Rattle.std.specs.declared.time.Duration.{Duration}
-use Rattle.clap.specs.Matches.{one_text}
 use Rattle.clap.specs.declared.parser.matches.Found.{Found}
 use Rattle.head_end.specs.declared.tcp.TcpLimits.{TcpLimits}
-
--- whether this is the number of the option of this name: it is written in decimal and fits this
--- number of bits
-abbrev pub IsNumber : ℕ → Found → List ℕ → ℕ → Type 0
-IsNumber bits found name number = (text : List ℕ) → one_text found name ≡ Some text
-    → IsNumeral 10 (without_leading_plus text)
-    → digits_value 10 (without_leading_plus text) < 2 ^ bits
-    → number ≡ digits_value 10 (without_leading_plus text)
+use Rattle.program.specs.Values.{IsNumber}
 
 -- the seconds of a limit; 0 means no limit, which is 2^32 - 1 seconds
 abbrev pub limit_seconds : ℕ → ℕ

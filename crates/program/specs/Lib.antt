@@ -4,3 +4,4 @@ pub mod Ends
 pub mod Options
 pub mod Passwords
 pub mod Statuses
+pub mod Values

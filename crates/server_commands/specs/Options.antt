@@ -1,17 +1,15 @@
 -- The values of the options of a command line.
 --     IsText       the text of an option
---     IsNumber     the number of an option
 --     IsTextFault  why the text of an option is not taken
---     IsFlag       whether an option without a value is given
 --     is_written   whether the words of the command line give an option
 --     IsBounds     the limits and flags of `serve`
-use Rattle.std.specs.Prelude.{◌≡◌, ◌⊎◌, ◌<◌, ◌^◌, ℕ, Bool, true, false, codes, List, [], ◌∷◌, ◌++◌, Option, Some, None, unwrap_or}
+use Rattle.std.specs.Prelude.{◌≡◌, ◌⊎◌, ◌<◌, ℕ, Bool, true, false, codes, List, [], Option, Some, None, unwrap_or}
 use Rattle.std.specs.Option.{option_and_then}
-use Rattle.std.specs.Str.Parse.{IsNumeral, digits_value, without_leading_plus}
-use Rattle.clap.specs.Matches.{first_value, matched_of, one_text}
+use Rattle.clap.specs.Matches.{first_value, matched_of}
 use Rattle.clap.specs.declared.parser.matches.Found.{Found}
 use Rattle.clap.specs.declared.parser.matches.ValueSource.{ValueSource}
 use Rattle.clap.specs.declared.parser.matches.ValueSource.TheVariants.{CommandLine, DefaultValue}
+use Rattle.program.specs.Values.{IsFlag, IsNumber}
 use Rattle.server_commands.specs.declared.options.Bounds.{Bounds}
 
 -- whether this is the text of the option of this name; empty if there is none
@@ -23,19 +21,6 @@ IsText found name text = text ≡ unwrap_or (first_value found name) []
 abbrev pub IsTextFault : {F : Type 0} → F → F → ℕ → ℕ → F → Type 0
 IsTextFault wrong memory longest count given = (given ≡ memory)
     ⊎ ((given ≡ wrong) × ((count ≡ 0) ⊎ (longest < count)))
-
--- whether this is the number of the option of this name: it is written in decimal and fits in this
--- number of bits
-abbrev pub IsNumber : ℕ → Found → List ℕ → ℕ → Type 0
-IsNumber bits found name number = (text : List ℕ) → one_text found name ≡ Some text
-    → IsNumeral 10 (without_leading_plus text)
-    → digits_value 10 (without_leading_plus text) < 2 ^ bits
-    → number ≡ digits_value 10 (without_leading_plus text)
-
--- whether the option of this name is given
-pub record IsFlag (found : Found) (name : List ℕ) (value : Bool) : Type 0 where
-  pub given : one_text found name ≡ Some (codes "true") → value ≡ true
-  pub absent : one_text found name ≡ Some (codes "false") → value ≡ false
 
 -- whether a value comes from the words of the command line, and not from a default
 abbrev pub is_of_words : Option ValueSource → Bool

@@ -5,7 +5,8 @@ ghost use Rattle.std.specs.Option.{option_map};
 ghost use Rattle.clap.specs.Matches.{first_value, found_of};
 ghost use Rattle.program.specs.Passwords.{HasNoLineEnd};
 ghost use Rattle.server_commands.specs.Asking.{is_of_asking};
-ghost use Rattle.server_commands.specs.Options.{IsText, IsNumber, IsFlag, IsBounds, is_written};
+ghost use Rattle.server_commands.specs.Options.{IsText, IsBounds, is_written};
+ghost use Rattle.program.specs.Values.{IsFlag, IsNumber};
 
 use clap::ArgMatches;
 use clap::parser::ValueSource;

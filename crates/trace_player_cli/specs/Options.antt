@@ -1,5 +1,4 @@
 -- The options of the command line.
---     IsSet          whether an option without a value is given
 --     IsBound        the number of an event, if the option is given
 --     IsFormat       the format that the option `--format` names
 --     IsView         the view that the options describe
@@ -10,14 +9,10 @@ use Rattle.std.specs.Prelude.{codes, List, ℕ, Option, Some, None}
 use Rattle.std.specs.Str.Parse.{IsNumeral, digits_value, without_leading_plus}
 use Rattle.clap.specs.Matches.{first_value, one_text}
 use Rattle.clap.specs.declared.parser.matches.Found.{Found}
+use Rattle.program.specs.Values.{IsFlag}
 use Rattle.trace_views.specs.declared.format.TraceFormat.{TraceFormat}
 use Rattle.trace_views.specs.declared.format.TraceFormat.TheVariants.{Lines, Csv, Json}
 use Rattle.trace_views.specs.declared.view.TraceView.{TraceView}
-
--- whether the option of this name is given
-pub record IsSet (found : Found) (name : List ℕ) (value : Bool) : Type 0 where
-  pub given : one_text found name ≡ Some (codes "true") → value ≡ true
-  pub absent : one_text found name ≡ Some (codes "false") → value ≡ false
 
 -- whether this is the number of the option of this name, which is written in decimal and fits in 32
 -- bits; there is none if the option is not given
@@ -39,8 +34,8 @@ pub record IsFormat (found : Found) (format : TraceFormat) : Type 0 where
 pub record IsView (found : Found) (view : TraceView) : Type 0 where
   pub first : IsBound found (codes "from") view.first
   pub last : IsBound found (codes "to") view.last
-  pub changes_only : IsSet found (codes "changes") view.changes_only
-  pub with_events : IsSet found (codes "events") view.with_events
+  pub changes_only : IsFlag found (codes "changes") view.changes_only
+  pub with_events : IsFlag found (codes "events") view.with_events
   pub format : IsFormat found view.format
 
 -- whether the upper bound is not below the lower one, if there are both

@@ -1,7 +1,8 @@
 //! The options of the command line as values.
 ghost use Rattle.std.specs.Prelude.{◌≡◌, ◌↔◌, codes, IsTrue};
 ghost use Rattle.clap.specs.Matches.{found_of};
-ghost use Rattle.trace_player_cli.specs.Options.{AreInOrder, IsBound, IsDescribed, IsFormat, IsSet};
+ghost use Rattle.trace_player_cli.specs.Options.{AreInOrder, IsBound, IsDescribed, IsFormat};
+ghost use Rattle.program.specs.Values.{IsFlag};
 ghost use Rattle.trace_player_cli.specs.Options.{IsView};
 ghost use Rattle.trace_views.specs.Views.{whole_view};
 ghost use Rattle.trace_views.specs.declared.format.TraceFormat.TheVariants.{Csv, Json};
@@ -40,7 +41,7 @@ impl Options<'_> {
 
 // Returns whether an option without a value is given.
 fn is_set(matches: &ArgMatches<'_>, name: &str) -> bool
-    ensures { IsSet (found_of matches.now) name.now result }
+    ensures { IsFlag (found_of matches.now) name.now result }
 {
     matches.get_flag(name)
 }
@@ -92,8 +93,8 @@ fn view_of(matches: &ArgMatches<'_>) -> TraceView
 // Returns the operand and the options.
 pub(crate) fn options_of<'a>(matches: &ArgMatches<'a>) -> Options<'a>
     ensures view { IsView (found_of matches.now) result.view }
-    ensures is_partial { IsSet (found_of matches.now) (codes "partial") result.is_partial }
-    ensures is_verbose { IsSet (found_of matches.now) (codes "verbose") result.is_verbose }
+    ensures is_partial { IsFlag (found_of matches.now) (codes "partial") result.is_partial }
+    ensures is_verbose { IsFlag (found_of matches.now) (codes "verbose") result.is_verbose }
 {
     let file = match matches.get_str("file") {
         Some("-") => None,
