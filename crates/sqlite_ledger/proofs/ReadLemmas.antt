@@ -1,5 +1,7 @@
 -- What a query of a ledger does to a connection: nothing.
-use Rattle.std.proofs.Common.{ℕ, List, [], codes, Result, Ok, Err, IfOk, OnOk, refl, subst}
+use Rattle.std.proofs.Common.{◌≡◌, ◌≢◌, ◌∙◌, ℕ, List, [], codes, Result, Ok, Err, IfOk, OnOk, refl}
+use Rattle.std.proofs.Common.{ap, subst, sym}
+use Rattle.sqlite.specs.Schema.{Schema}
 use Rattle.sqlite.specs.Order.{Row}
 use Rattle.sqlite.specs.Listing.{understood}
 use Rattle.sqlite.specs.State.{State, IsUnchanged, Shown, ShowsRows}
@@ -19,6 +21,16 @@ pub ok_then : {X E : Type 0} (r : Result X E) (P : X → Type 0) (Q : Type 0) �
     P x → Q) → OnOk r Q
 ok_then (Ok x) P Q h f = f x h
 ok_then (Err e) P Q h f = tt
+
+pub ok_map : {X E : Type 0} (r : Result X E) (P Q : X → Type 0) → IfOk r P → ((x : X) → P x → Q x)
+    → IfOk r Q
+ok_map (Ok x) P Q h f = f x h
+ok_map (Err e) P Q h f = tt
+
+-- a ledger has tables
+pub has_tables : (schema : Schema) → schema ≡ ledger_schema → schema.tables ≢ []
+has_tables schema has empty =
+    let none : ledger_schema.tables ≡ [] = ap (λ (s : Schema). s.tables) (sym has) ∙ empty in cc
 
 abbrev pub select_jobs : List ℕ
 select_jobs = codes "SELECT place, name, address, verb FROM job ORDER BY place"

@@ -3,9 +3,10 @@
 --     select_outcomes    the query of all outcomes
 --     IsMarkRow          the place of a mark, and the entry that it makes
 --     IsOutcomeRow       the place of an outcome, and the entry that it makes
---     Enters             what rows make of the entries of a ledger
---     EntersShown        what the rows that a query shows make of them
---     HasEntries         the entries that the marks and the outcomes make of those of unsent jobs
+--     Enters             what rows make of a list, each at its place
+--     EntersShown        what the rows that a query shows make of it
+--     ShowsEntries       the entries that the marks and the outcomes make of those of unsent jobs
+--     HasEntries         these, after queries that changed nothing
 use Rattle.std.specs.Prelude.{◌≡◌, ◌<◌, ℕ, pos, List, [], ◌∷◌, codes, length, replicate, slice_set}
 use Rattle.sqlite.specs.declared.types.Value.TheVariants.{Int, Text as Words}
 use Rattle.sqlite.specs.Order.{Row, column}
@@ -33,31 +34,35 @@ IsOutcomeRow row place entry = (outcome : Outcome) × (column row 0 ≡ Int (pos
     × (column row 1 ≡ Words (kind_of outcome)) × (column row 2 ≡ number_of outcome)
     × (entry ≡ Came outcome)
 
--- whether the new entries are the old ones after each of these rows, one after the other, has set
--- the entry of its place
-abbrev pub Enters : (Row → ℕ → LedgerEntry → Type 0) → List Row → (old new : List LedgerEntry)
-    → Type 0
+-- whether the new list is the old one after each of these rows, one after the other, has set the
+-- item at its place
+abbrev pub Enters : {A : Type 0} → (Row → ℕ → A → Type 0) → List Row → (old new : List A) → Type 0
 Enters IsRow [] old new = new ≡ old
-Enters IsRow (row ∷ rows) old new = (place : ℕ) × (entry : LedgerEntry) × IsRow row place entry
-    × (place < length old) × Enters IsRow rows (slice_set old place entry) new
+Enters IsRow (row ∷ rows) old new = (place : ℕ) × (item : _) × IsRow row place item
+    × (place < length old) × Enters IsRow rows (slice_set old place item) new
 
--- whether the new entries are the old ones after the rows that a query shows have set theirs
-pub record EntersShown (query : List ℕ) (IsRow : Row → ℕ → LedgerEntry → Type 0)
-    (before after : State) (old new : List LedgerEntry) : Type 0 where
+-- whether the new list is the old one after the rows that a query shows have set theirs
+pub record EntersShown {A : Type 0} (query : List ℕ) (IsRow : Row → ℕ → A → Type 0)
+    (before after : State) (old new : List A) : Type 0 where
   pub rows : List Row
   pub shown : Shown query [] before after rows
   pub enters : Enters IsRow rows old new
 
 -- Whether these are the entries of this number of jobs: no command was sent but those of the marks
--- that were shown, and then the outcomes that were shown have set theirs. No query has changed the
--- database.
+-- that were shown, and then the outcomes that were shown have set theirs.
+pub record ShowsEntries {H : Type 0} (state_of : H → State) (before after : H) (jobs : ℕ)
+    (entries : List LedgerEntry) : Type 0 where
+  pub between : H
+  pub marked : List LedgerEntry
+  pub marks : EntersShown select_begun IsMarkRow (state_of before) (state_of between)
+      (replicate jobs NotSent) marked
+  pub outcomes : EntersShown select_outcomes IsOutcomeRow (state_of between) (state_of after) marked
+      entries
+
+-- Whether these are the entries of this number of jobs. No query has changed the database before
+-- the marks and the outcomes were shown.
 pub record HasEntries {H : Type 0} (state_of : H → State) (before after : H) (jobs : ℕ)
     (entries : List LedgerEntry) : Type 0 where
   pub asked : H
   pub unchanged : IsUnchanged (state_of before) (state_of asked)
-  pub between : H
-  pub marked : List LedgerEntry
-  pub marks : EntersShown select_begun IsMarkRow (state_of asked) (state_of between)
-      (replicate jobs NotSent) marked
-  pub outcomes : EntersShown select_outcomes IsOutcomeRow (state_of between) (state_of after) marked
-      entries
+  pub shown : ShowsEntries state_of asked after jobs entries

@@ -1,7 +1,9 @@
 //! `open_book`: opens the ledger of a campaign over a connection.
-ghost use Rattle.std.specs.Prelude.{◌≡◌, ◌≢◌, [], length, Ok, Err, OnOk, IfOk, false};
+ghost use Rattle.std.specs.Prelude.{◌≡◌, ◌≢◌, [], length, replicate, Ok, Err, OnOk, IfOk, IsTrue};
+ghost use Rattle.std.specs.Prelude.{false};
 ghost use Rattle.sqlite.specs.State.{HasCleanDisk, IsUnchanged};
 ghost use Rattle.sqlite.specs.Held.{state};
+ghost use Rattle.campaign_ledger.specs.declared.entry.LedgerEntry.TheVariants.{NotSent};
 ghost use Rattle.sqlite_ledger.specs.Marks.{LeavesCommit};
 ghost use Rattle.sqlite_ledger.specs.Readings.{HasEntries};
 ghost use Rattle.sqlite_ledger.specs.Schema.{ledger_schema};
@@ -10,7 +12,7 @@ ghost use Rattle.sqlite_ledger.specs.declared.open_fault.LedgerOpenFault.TheVari
 use crate::book::SqliteBook;
 use crate::creation::create_ledger;
 use crate::open_fault::LedgerOpenFault;
-use crate::reading::{has_jobs, read_marks, read_outcomes};
+use crate::reading::{has_jobs, new_entries, read_entries};
 use crate::schema::{is_empty, is_ledger_schema};
 use campaign_ledger::{Ledger, LedgerEntry};
 use client_core::Job;
@@ -18,47 +20,55 @@ use sqlite::{Alter, Connection};
 use std::alloc::Global;
 use std::rt::HostRuntime;
 
-// Makes the ledger if the database is empty.
-fn create_if_empty<S: Alter>(conn: &mut Connection<S>, jobs: &[Job]) -> Result<(), LedgerOpenFault>
+// Makes the ledger if the database is empty, and returns whether it is new.
+fn create_if_empty<S: Alter>(
+    conn: &mut Connection<S>,
+    jobs: &[Job],
+) -> Result<bool, LedgerOpenFault>
     ensures ledger_unchanged { conn.old.schema ≡ ledger_schema → conn.new ≡ conn.old }
     ensures tables_unchanged { conn.old.schema.tables ≢ []
-        → (result ≡ Ok tt) × (conn.new ≡ conn.old) }
+        → (result ≡ Ok false) × (conn.new ≡ conn.old) }
+    ensures not_new { IfOk result (λ is_new. is_new ≡ false → conn.new ≡ conn.old) }
 {
     if !is_empty(conn.schema()) {
-        return Ok(());
+        return Ok(false);
     }
     match create_ledger(conn, jobs) {
-        Ok(()) => Ok(()),
+        Ok(()) => Ok(true),
         Err(error) => Err(LedgerOpenFault::from(error)),
     }
 }
 
-// Returns the entries of a ledger's places.
+// Returns the entries of a ledger's places. A new ledger has no marks.
 fn read_ledger<S: Alter>(
     alloc: Global,
     conn: &mut Connection<S>,
     jobs: &[Job],
+    is_new: bool,
 ) -> Result<Vec<LedgerEntry>, LedgerOpenFault>
     ensures clean { HasCleanDisk (state S.Store conn.new) → HasCleanDisk (state S.Store conn.old) }
     ensures unchanged { HasCleanDisk (state S.Store conn.new) → conn.old.schema ≡ ledger_schema
         → OnOk result (IsUnchanged (state S.Store conn.old) (state S.Store conn.new)) }
     ensures entries { HasCleanDisk (state S.Store conn.new) → conn.old.schema ≡ ledger_schema
-        → IfOk result (λ entries. HasEntries (λ c. state S.Store c) conn.old conn.new
-        (length jobs.now) entries.items) }
+        → is_new ≡ false → IfOk result (λ entries. HasEntries (λ c. state S.Store c) conn.old
+        conn.new (length jobs.now) entries.items) }
+    ensures new { IsTrue is_new
+        → IfOk result (λ entries. entries.items ≡ replicate (length jobs.now) NotSent) }
     ensures len { IfOk result (λ entries. length entries.items ≡ length jobs.now) }
 {
     if !has_jobs(conn, jobs)? {
         return Err(LedgerOpenFault::OtherList);
     }
-    let mut entries = vec![in alloc; LedgerEntry::NotSent; jobs.len()]?;
-    read_marks(conn, &mut entries)?;
-    read_outcomes(conn, &mut entries)?;
-    Ok(entries)
+    if is_new {
+        return Ok(new_entries(alloc, jobs.len())?);
+    }
+    read_entries(alloc, conn, jobs.len())
 }
 
 /// Opens the ledger of a campaign with these jobs over a connection. An empty database gets the
-/// tables and the jobs, in one transaction. A database with other tables is unchanged. The entries
-/// are those of the marks and the outcomes that the queries of the database show.
+/// tables and the jobs, in one transaction, and each entry is `NotSent`. A database with other
+/// tables is unchanged. The entries of an existing ledger are those of the marks and the outcomes
+/// that the queries of the database show.
 ///
 /// Errors, each with the connection: `NotALedger` for a database with other tables, of another
 /// version, or with a mark or an outcome that is none; `OtherList` for the ledger of another list
@@ -73,6 +83,8 @@ pub fn open_book<S: Alter + Drop>(
     ensures entries { conn.schema ≡ ledger_schema → IfOk result (λ ledger.
         HasCleanDisk (state S.Store ledger.book) → HasEntries (λ c. state S.Store c) conn
         ledger.book (length jobs.now) ledger.entries) }
+    ensures new { conn.schema.tables ≡ []
+        → IfOk result (λ ledger. ledger.entries ≡ replicate (length jobs.now) NotSent) }
     ensures unfailed { IfOk result (λ ledger. ledger.has_failed ≡ false) }
     ensures other_tables_unchanged { conn.schema.tables ≢ [] → conn.schema ≢ ledger_schema
         → result ≡ Err (NotALedger, conn) }
@@ -83,13 +95,14 @@ pub fn open_book<S: Alter + Drop>(
         HasCleanDisk (state S.Store ledger.book)
         → IsUnchanged (state S.Store conn) (state S.Store ledger.book)) }
 {
-    if let Err(fault) = create_if_empty(&mut conn, jobs) {
-        return Err((fault, conn));
-    }
+    let is_new = match create_if_empty(&mut conn, jobs) {
+        Ok(is_new) => is_new,
+        Err(fault) => return Err((fault, conn)),
+    };
     if !is_ledger_schema(conn.schema()) {
         return Err((LedgerOpenFault::NotALedger, conn));
     }
-    match read_ledger(rt.alloc(), &mut conn, jobs) {
+    match read_ledger(rt.alloc(), &mut conn, jobs, is_new) {
         Ok(entries) => match SqliteBook::new(rt, conn) {
             Ok(book) => Ok(Ledger::new(book, entries)),
             Err(conn) => Err((LedgerOpenFault::NotALedger, conn)),

@@ -1,12 +1,13 @@
 //! What a ledger's file has: its campaign, its jobs, its marks and its outcomes.
 ghost use Rattle.std.specs.Prelude.{◌≡◌, ◌≢◌, ◌<◌, ◌^◌, ℕ, pos, [], Some, None, Err, length, IfOk};
-ghost use Rattle.std.specs.Prelude.{OnOk, vec_len};
+ghost use Rattle.std.specs.Prelude.{OnOk, replicate, vec_len};
 ghost use Rattle.sqlite.specs.State.{HasCleanDisk, IsUnchanged, Shown};
 ghost use Rattle.sqlite.specs.Given.{IsPlain};
 ghost use Rattle.sqlite.specs.Listing.{understood};
 ghost use Rattle.sqlite.specs.Held.{state};
+ghost use Rattle.campaign_ledger.specs.declared.entry.LedgerEntry.TheVariants.{NotSent};
 ghost use Rattle.sqlite_ledger.specs.Readings.{Enters, EntersShown, IsMarkRow, IsOutcomeRow};
-ghost use Rattle.sqlite_ledger.specs.Readings.{select_begun, select_outcomes};
+ghost use Rattle.sqlite_ledger.specs.Readings.{ShowsEntries, select_begun, select_outcomes};
 ghost use Rattle.sqlite_ledger.specs.Schema.{ledger_schema};
 ghost use Rattle.sqlite_ledger.specs.declared.open_fault.LedgerOpenFault.TheVariants.{NotALedger};
 
@@ -19,7 +20,7 @@ use campaign_ledger::LedgerEntry;
 use client_core::Job;
 use ledger_reports::{LedgerLine, LedgerTimes};
 use sqlite::{Alter, Connection, Error, Row};
-use std::alloc::Global;
+use std::alloc::{AllocError, Global};
 
 // The jobs in the order of their places.
 const SELECT_JOBS: &str = "SELECT place, name, address, verb FROM job ORDER BY place";
@@ -133,7 +134,7 @@ fn enter_outcomes(entries: &mut [LedgerEntry], rows: &[Row]) -> Result<(), Ledge
 }
 
 // Sets the entries of the marked places to `MaybeSent`.
-pub(crate) fn read_marks<S: Alter>(
+fn read_marks<S: Alter>(
     conn: &mut Connection<S>,
     entries: &mut [LedgerEntry],
 ) -> Result<(), LedgerOpenFault>
@@ -149,7 +150,7 @@ pub(crate) fn read_marks<S: Alter>(
 }
 
 // Sets the entries of the places with an outcome to it.
-pub(crate) fn read_outcomes<S: Alter>(
+fn read_outcomes<S: Alter>(
     conn: &mut Connection<S>,
     entries: &mut [LedgerEntry],
 ) -> Result<(), LedgerOpenFault>
@@ -162,6 +163,32 @@ pub(crate) fn read_outcomes<S: Alter>(
 {
     let rows = select(conn, SELECT_OUTCOMES)?;
     enter_outcomes(entries, &rows)
+}
+
+// Returns the entries of this number of jobs, of which no command was sent.
+pub(crate) fn new_entries(alloc: Global, count: usize) -> Result<Vec<LedgerEntry>, AllocError>
+    ensures { IfOk result (λ entries. entries.items ≡ replicate count NotSent) }
+{
+    vec![in alloc; LedgerEntry::NotSent; count]
+}
+
+// Returns the entries of this number of jobs, by the marks and the outcomes.
+pub(crate) fn read_entries<S: Alter>(
+    alloc: Global,
+    conn: &mut Connection<S>,
+    count: usize,
+) -> Result<Vec<LedgerEntry>, LedgerOpenFault>
+    ensures entries { HasCleanDisk (state S.Store conn.new) → IfOk result (λ entries.
+        ShowsEntries (λ c. state S.Store c) conn.old conn.new count entries.items) }
+    ensures len { IfOk result (λ entries. length entries.items ≡ count) }
+    ensures clean { HasCleanDisk (state S.Store conn.new) → HasCleanDisk (state S.Store conn.old) }
+    ensures unchanged { HasCleanDisk (state S.Store conn.new) → conn.old.schema ≡ ledger_schema
+        → OnOk result (IsUnchanged (state S.Store conn.old) (state S.Store conn.new)) }
+{
+    let mut entries = new_entries(alloc, count)?;
+    read_marks(conn, &mut entries)?;
+    read_outcomes(conn, &mut entries)?;
+    Ok(entries)
 }
 
 // Returns the time of a column `at` or `asked_at`, in seconds since 1970. Returns `None` for 0,
@@ -254,9 +281,7 @@ fn read_known<S: Alter>(
         → OnOk result (IsUnchanged (state S.Store conn.old) (state S.Store conn.new)) }
 {
     let rows = read_jobs(conn)?;
-    let mut entries = vec![in alloc; LedgerEntry::NotSent; rows.len()]?;
-    read_marks(conn, &mut entries)?;
-    read_outcomes(conn, &mut entries)?;
+    let entries = read_entries(alloc, conn, rows.len())?;
     let mut begun = vec![in alloc; None; rows.len()]?;
     let mut ended = vec![in alloc; None; rows.len()]?;
     read_begun_times(conn, &mut begun)?;

@@ -1,40 +1,19 @@
-use Rattle.std.proofs.Common.{◌≡◌, List, length, replicate, subst, sym, ◌∙◌}
-use Rattle.sqlite.specs.Held.{state}
-use Rattle.campaign_ledger.specs.declared.entry.LedgerEntry.{LedgerEntry}
-use Rattle.campaign_ledger.specs.declared.entry.LedgerEntry.TheVariants.{NotSent}
-use Rattle.sqlite_ledger.specs.Readings.{EntersShown, IsMarkRow, IsOutcomeRow, select_begun}
-use Rattle.sqlite_ledger.specs.Readings.{select_outcomes}
-use Rattle.sqlite_ledger.proofs.EntryLemmas.{enters_length, whole_slice}
+use Rattle.std.proofs.Common.{length}
+use Rattle.sqlite.specs.Held.{Held, state}
+use Rattle.sqlite_ledger.specs.Readings.{HasEntries, ShowsEntries}
+use Rattle.sqlite_ledger.proofs.ReadLemmas.{ok_map}
 use Rattle.sqlite_ledger.proofs.opening.read_ledger.Goals as goal
 
 pub returns-clause-entries : goal.returns-clause-entries
-returns-clause-entries g c clean has =
-    let marked_clean = c.read_outcomes.ensures.clean clean in
-    let asked_clean = c.read_marks.ensures.clean marked_clean in
-    let marks = c.in_ok-read_marks.ensures.entries marked_clean in
-    let outcomes = c.in_ok-read_outcomes.ensures.entries clean in
-    let len = c.in_ok-entries.entries.len in
-    let blank : c.deref_mut.result.now ≡ replicate (length c.args.jobs.now) NotSent =
-    c.deref_mut.ensures.value ∙ c.in_ok-entries.ensures.items_if_clones_equal (λ y same. same) in
-    let marked_len = enters_length IsMarkRow marks.rows c.deref_mut.result.now
-    c.read_marks.new.entries marks.enters ∙ c.deref_mut.ensures.len in
-    let ended_len = enters_length IsOutcomeRow outcomes.rows c.deref_mut-2.result.now
-    c.read_outcomes.new.entries outcomes.enters ∙ c.deref_mut-2.ensures.len in
-    let marked : c.deref_mut-2.result.now ≡ c.read_marks.new.entries =
-    c.deref_mut-2.ensures.value ∙ whole_slice c.read_marks.new.entries _ len marked_len in
-    record {
+returns-clause-entries g c clean has old =
+    let of = λ (conn : Held g.row.S.Denot). state g.S.Store conn in
+    let jobs = length c.args.jobs.now in
+    ok_map c.read_entries.result
+    (λ entries. ShowsEntries of c.has_jobs.new.conn c.read_entries.new.conn jobs entries.items)
+    (λ entries. HasEntries of c.args.conn.now c.read_entries.new.conn jobs entries.items)
+    (c.read_entries.ensures.entries clean)
+    (λ entries shown. record {
       asked = c.has_jobs.new.conn;
-      unchanged = c.in_ok-has_jobs.ensures.unchanged asked_clean has;
-      between = c.read_marks.new.conn;
-      marked = c.read_marks.new.entries;
-      marks = subst (λ (old : List LedgerEntry). EntersShown select_begun IsMarkRow
-          (state g.S.Store c.has_jobs.new.conn) (state g.S.Store c.read_marks.new.conn) old
-          c.read_marks.new.entries) blank marks;
-      outcomes = subst (λ (new : List LedgerEntry). EntersShown select_outcomes IsOutcomeRow
-          (state g.S.Store c.read_marks.new.conn) (state g.S.Store c.read_outcomes.new.conn)
-          c.read_marks.new.entries new)
-          (sym (whole_slice c.read_outcomes.new.entries _ len ended_len))
-          (subst (λ (old : List LedgerEntry). EntersShown select_outcomes IsOutcomeRow
-          (state g.S.Store c.read_marks.new.conn) (state g.S.Store c.read_outcomes.new.conn) old
-          c.read_outcomes.new.entries) marked outcomes);
-    }
+      unchanged = c.in_ok-has_jobs.ensures.unchanged (c.read_entries.ensures.clean clean) has;
+      shown = shown;
+    })
