@@ -1,5 +1,6 @@
 -- What rows make of a list, row by row.
 use Rattle.std.proofs.Common.{arith, ◌≡◌, ◌<◌, ◌+◌, ℕ, List, [], ◌∷◌, ◌++◌, length, slice_index_or, slice_set, take, ap, subst, sym, ◌∙◌}
+use Rattle.std.proofs.Common.{Option, Some, None, refl}
 use Rattle.std.proofs.lemmas.List.{take_more, take_all, take-append-le, length-set}
 use Rattle.sqlite.specs.Order.{Row}
 use Rattle.sqlite_ledger.specs.Readings.{Enters}
@@ -50,3 +51,9 @@ module _ {A : Type 0} where
       → take len (new ++ rest) ≡ new
   whole_slice new rest len same = take-append-le len new rest (omega (arith, same))
       ∙ take_all len new (omega (arith, same))
+
+-- what no number has, None has alone
+pub none_only : (P : Option ℕ → Type 0) → ((x : ℕ) → P (Some x) → ⊥) → (y : Option ℕ) → P y
+    → y ≡ None
+none_only P never None has = refl
+none_only P never (Some x) has = absurd (never x has)

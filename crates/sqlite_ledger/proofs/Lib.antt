@@ -5,6 +5,7 @@ pub mod AnswerStates
 pub mod EntryLemmas
 pub mod InsertLemmas
 pub mod InsertStates
+pub mod LineLemmas
 pub mod MarkLemmas
 pub mod MarkStates
 pub mod OutcomeLemmas

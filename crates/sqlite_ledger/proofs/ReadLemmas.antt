@@ -7,6 +7,7 @@ use Rattle.sqlite.specs.Listing.{understood}
 use Rattle.sqlite.specs.State.{State, IsUnchanged, Shown, ShowsRows}
 use Rattle.sqlite.proofs.Callers.{IsPlain}
 use Rattle.sqlite_tied.specs.Compute.{everything}
+use Rattle.sqlite_ledger.specs.Lines.{select_jobs, select_begun_times, select_outcome_times}
 use Rattle.sqlite_ledger.specs.Readings.{select_begun, select_outcomes}
 use Rattle.sqlite_ledger.specs.Schema.{ledger_schema}
 
@@ -32,17 +33,8 @@ pub has_tables : (schema : Schema) → schema ≡ ledger_schema → schema.table
 has_tables schema has empty =
     let none : ledger_schema.tables ≡ [] = ap (λ (s : Schema). s.tables) (sym has) ∙ empty in cc
 
-abbrev pub select_jobs : List ℕ
-select_jobs = codes "SELECT place, name, address, verb FROM job ORDER BY place"
-
 abbrev pub select_campaign : List ℕ
 select_campaign = codes "SELECT version, jobs FROM campaign"
-
-abbrev pub select_begun_times : List ℕ
-select_begun_times = codes "SELECT place, at FROM begun"
-
-abbrev pub select_outcome_times : List ℕ
-select_outcome_times = codes "SELECT place, at FROM outcome"
 
 pub jobs_plain : IsPlain (understood ledger_schema select_jobs)
 unfolding understood everything

@@ -5,6 +5,7 @@ pub mod AnswersSchema
 pub mod AtRest
 pub mod Campaigns
 pub mod EntryCode
+pub mod Lines
 pub mod Marks
 pub mod OpenFaults
 pub mod Outcomes

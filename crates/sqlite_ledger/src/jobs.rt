@@ -1,4 +1,7 @@
 //! The jobs of a campaign, as a ledger has them.
+ghost use Rattle.std.specs.Prelude.{IfOk};
+ghost use Rattle.sqlite_ledger.specs.Lines.{IsJobRow};
+
 use crate::open_fault::LedgerOpenFault;
 use client_core::{Job, Verb};
 use cosem_axdr::Octets;
@@ -57,7 +60,9 @@ pub(crate) fn are_rows_of(rows: &[Row], jobs: &[Job]) -> Result<bool, Error> {
 
 // Returns the job of a row of the table `job`. Fails with `NotALedger` if the row is not that of
 // this place, or has another word than a verb.
-pub(crate) fn read_job(alloc: Global, row: &Row, place: usize) -> Result<Job, LedgerOpenFault> {
+pub(crate) fn read_job(alloc: Global, row: &Row, place: usize) -> Result<Job, LedgerOpenFault>
+    ensures { IfOk result (λ job. IsJobRow row.now place job) }
+{
     let at: u32 = row.get(0)?;
     let name: String = row.get(1)?;
     let address: String = row.get(2)?;

@@ -6,6 +6,8 @@ ghost use Rattle.sqlite.specs.Given.{IsPlain};
 ghost use Rattle.sqlite.specs.Listing.{understood};
 ghost use Rattle.sqlite.specs.Held.{state};
 ghost use Rattle.campaign_ledger.specs.declared.entry.LedgerEntry.TheVariants.{NotSent};
+ghost use Rattle.sqlite_ledger.specs.Lines.{AreLinesOf, IsTimeRow, ShowsLines};
+ghost use Rattle.sqlite_ledger.specs.Lines.{select_begun_times, select_jobs, select_outcome_times};
 ghost use Rattle.sqlite_ledger.specs.Readings.{Enters, EntersShown, IsMarkRow, IsOutcomeRow};
 ghost use Rattle.sqlite_ledger.specs.Readings.{ShowsEntries, select_begun, select_outcomes};
 ghost use Rattle.sqlite_ledger.specs.Schema.{ledger_schema};
@@ -54,6 +56,8 @@ fn select<S: Alter>(conn: &mut Connection<S>, query: &str) -> Result<Vec<Row>, E
 
 // Returns the rows of the table `job`, in the order of the places.
 fn select_jobs<S: Alter>(conn: &mut Connection<S>) -> Result<Vec<Row>, Error>
+    ensures shown { HasCleanDisk (state S.Store conn.new) → IfOk result (λ rows.
+        Shown select_jobs [] (state S.Store conn.old) (state S.Store conn.new) rows.items) }
     ensures clean { HasCleanDisk (state S.Store conn.new) → HasCleanDisk (state S.Store conn.old) }
     ensures unchanged { HasCleanDisk (state S.Store conn.new) → conn.old.schema ≡ ledger_schema
         → OnOk result (IsUnchanged (state S.Store conn.old) (state S.Store conn.new)) }
@@ -204,42 +208,67 @@ pub(crate) fn time_of(at: i64) -> Option<u32>
     }
 }
 
-// Sets the times of the places of these rows.
-fn enter_times(times: &mut [Option<u32>], rows: &[Row]) -> Result<(), Error> {
-    for row in rows {
+// Sets the times of the places of these rows. Fails with `NotALedger` if one has no job.
+fn enter_times(times: &mut [Option<u32>], rows: &[Row]) -> Result<(), LedgerOpenFault>
+    ensures { OnOk result (Enters IsTimeRow rows.now times.old times.new) }
+{
+    'rows: for row in rows {
         let place: u32 = row.get(0)?;
+        let place = place as usize;
         let at: i64 = row.get(1)?;
-        if let Some(time) = times.get_mut(place as usize) {
-            *time = time_of(at);
+        if place >= times.len() {
+            return Err(LedgerOpenFault::NotALedger);
         }
+        times[place] = time_of(at);
     }
     Ok(())
 }
 
-// Sets the times of the marked places.
+// Returns the times of this number of jobs that these rows have.
+fn times_of(alloc: Global, rows: &[Row], count: usize) -> Result<Vec<Option<u32>>, LedgerOpenFault>
+    ensures times { IfOk result (λ times. Enters IsTimeRow rows.now (replicate count None)
+        times.items) }
+    ensures len { IfOk result (λ times. length times.items ≡ count) }
+{
+    let mut times = vec![in alloc; None; count]?;
+    enter_times(&mut times, rows)?;
+    Ok(times)
+}
+
+// Returns the times of the marks of this number of jobs.
 fn read_begun_times<S: Alter>(
+    alloc: Global,
     conn: &mut Connection<S>,
-    times: &mut [Option<u32>],
-) -> Result<(), Error>
+    count: usize,
+) -> Result<Vec<Option<u32>>, LedgerOpenFault>
+    ensures times { HasCleanDisk (state S.Store conn.new) → IfOk result (λ times.
+        EntersShown select_begun_times IsTimeRow (state S.Store conn.old)
+        (state S.Store conn.new) (replicate count None) times.items) }
+    ensures len { IfOk result (λ times. length times.items ≡ count) }
     ensures clean { HasCleanDisk (state S.Store conn.new) → HasCleanDisk (state S.Store conn.old) }
     ensures unchanged { HasCleanDisk (state S.Store conn.new) → conn.old.schema ≡ ledger_schema
         → OnOk result (IsUnchanged (state S.Store conn.old) (state S.Store conn.new)) }
 {
     let rows = select(conn, SELECT_BEGUN_TIMES)?;
-    enter_times(times, &rows)
+    times_of(alloc, &rows, count)
 }
 
-// Sets the times of the places with an outcome.
+// Returns the times of the outcomes of this number of jobs.
 fn read_outcome_times<S: Alter>(
+    alloc: Global,
     conn: &mut Connection<S>,
-    times: &mut [Option<u32>],
-) -> Result<(), Error>
+    count: usize,
+) -> Result<Vec<Option<u32>>, LedgerOpenFault>
+    ensures times { HasCleanDisk (state S.Store conn.new) → IfOk result (λ times.
+        EntersShown select_outcome_times IsTimeRow (state S.Store conn.old)
+        (state S.Store conn.new) (replicate count None) times.items) }
+    ensures len { IfOk result (λ times. length times.items ≡ count) }
     ensures clean { HasCleanDisk (state S.Store conn.new) → HasCleanDisk (state S.Store conn.old) }
     ensures unchanged { HasCleanDisk (state S.Store conn.new) → conn.old.schema ≡ ledger_schema
         → OnOk result (IsUnchanged (state S.Store conn.old) (state S.Store conn.new)) }
 {
     let rows = select(conn, SELECT_OUTCOME_TIMES)?;
-    enter_times(times, &rows)
+    times_of(alloc, &rows, count)
 }
 
 // Returns the lines of the rows of the table `job`, with these entries and times.
@@ -249,19 +278,24 @@ fn lines_of(
     entries: &[LedgerEntry],
     begun: &[Option<u32>],
     ended: &[Option<u32>],
-) -> Result<Vec<LedgerLine>, LedgerOpenFault> {
+) -> Result<Vec<LedgerLine>, LedgerOpenFault>
+    requires entry_each { length entries.now ≡ length rows.now }
+    requires begun_each { length begun.now ≡ length rows.now }
+    requires ended_each { length ended.now ≡ length rows.now }
+    ensures { IfOk result (λ lines. AreLinesOf rows.now entries.now begun.now ended.now
+        lines.items) }
+{
     let mut lines = Vec::with_capacity(alloc, rows.len())?;
-    let times = begun.iter().zip(ended);
-    for (row, (entry, (begun, ended))) in rows.iter().zip(entries.iter().zip(times)) {
-        let job = read_job(alloc, row, lines.len())?;
-        let times = LedgerTimes {
-            begun: *begun,
-            ended: *ended,
-        };
+    'rows: for row in rows {
+        let place = lines.len();
+        let job = read_job(alloc, row, place)?;
         let line = LedgerLine {
             job,
-            entry: *entry,
-            times,
+            entry: entries[place],
+            times: LedgerTimes {
+                begun: begun[place],
+                ended: ended[place],
+            },
             answer: None,
         };
         if lines.push(line).is_err() {
@@ -276,28 +310,33 @@ fn read_known<S: Alter>(
     alloc: Global,
     conn: &mut Connection<S>,
 ) -> Result<Vec<LedgerLine>, LedgerOpenFault>
+    ensures lines { HasCleanDisk (state S.Store conn.new) → conn.old.schema ≡ ledger_schema
+        → IfOk result (λ lines. ShowsLines (λ c. state S.Store c) conn.old conn.new lines.items) }
     ensures clean { HasCleanDisk (state S.Store conn.new) → HasCleanDisk (state S.Store conn.old) }
     ensures unchanged { HasCleanDisk (state S.Store conn.new) → conn.old.schema ≡ ledger_schema
         → OnOk result (IsUnchanged (state S.Store conn.old) (state S.Store conn.new)) }
 {
-    let rows = read_jobs(conn)?;
+    let rows = select_jobs(conn)?;
+    check_campaign(conn, rows.len())?;
     let entries = read_entries(alloc, conn, rows.len())?;
-    let mut begun = vec![in alloc; None; rows.len()]?;
-    let mut ended = vec![in alloc; None; rows.len()]?;
-    read_begun_times(conn, &mut begun)?;
-    read_outcome_times(conn, &mut ended)?;
+    let begun = read_begun_times(alloc, conn, rows.len())?;
+    let ended = read_outcome_times(alloc, conn, rows.len())?;
     lines_of(alloc, &rows, &entries, &begun, &ended)
 }
 
 /// Returns the lines of the ledger of a connection, in the order of its jobs, and changes nothing.
+/// They are those of the jobs, the marks, the outcomes and the times that the queries of the
+/// database show.
 ///
-/// Errors: `NotALedger` for a database with other tables, of another version, or with a job or an
-/// outcome that is none; `File` and `Memory`.
+/// Errors: `NotALedger` for a database with other tables, of another version, with a mark or an
+/// outcome of no job, or with a job or an outcome that is none; `File` and `Memory`.
 pub fn read_lines<S: Alter>(
     alloc: Global,
     conn: &mut Connection<S>,
 ) -> Result<Vec<LedgerLine>, LedgerOpenFault>
     ensures clean { HasCleanDisk (state S.Store conn.new) → HasCleanDisk (state S.Store conn.old) }
+    ensures lines { HasCleanDisk (state S.Store conn.new) → IfOk result (λ lines.
+        ShowsLines (λ c. state S.Store c) conn.old conn.new lines.items) }
     ensures schema { IfOk result (λ _. conn.old.schema ≡ ledger_schema) }
     ensures other_tables_unchanged { conn.old.schema ≢ ledger_schema
         → (result ≡ Err NotALedger) × (conn.new ≡ conn.old) }
