@@ -1,2 +1,4 @@
+mod DoubleLemmas
 mod Inputs
 mod Plans
+mod Stored

@@ -1,6 +1,7 @@
 -- Why there is no plan, from the faults of its parts.
 use Rattle.std.proofs.Common.{◌≡◌, ◌≢◌, inl, inr, ℕ, true, codes, List, [], Option, Some, None}
-use Rattle.std.proofs.Common.{Result, Ok, Err, IfErr, slice_index_or, refl, sym, ap, ◌∙◌}
+use Rattle.std.proofs.Common.{Result, Ok, Err, IfErr, slice_index_or, zero, suc, refl, sym}
+use Rattle.std.proofs.Common.{subst, ◌∙◌}
 use Rattle.clap.specs.Matches.{first_value}
 use Rattle.clap.specs.declared.parser.matches.Found.{Found}
 use Rattle.client_core.specs.declared.job.Job.{Job}
@@ -19,7 +20,8 @@ use Rattle.head_end_commands.specs.Faults.{list_fault, passwords_fault}
 use Rattle.head_end_commands.specs.Lists.{AreJobsOf, HasNoList}
 use Rattle.head_end_commands.specs.Passwords.{IsCommonPassword}
 use Rattle.head_end_commands.specs.PlanFaults.{IsListFault}
-use Rattle.head_end_commands.specs.PlanFaults.{IsTextFault, IsJobsFault, IsPlanFault}
+use Rattle.head_end_commands.specs.Doubles.{HasDouble, name_at}
+use Rattle.head_end_commands.specs.PlanFaults.{IsWrongFor, IsTextFault, IsJobsFault, IsPlanFault}
 use Rattle.head_end_commands.specs.PlanFaults.{IsCampaignFault}
 use Rattle.head_end_commands.specs.declared.passwords.PasswordListFault.{PasswordListFault}
 use Rattle.head_end_commands.specs.declared.passwords.PasswordListFault.TheVariants as list
@@ -58,36 +60,54 @@ no_common : (own common : Option (List ℕ)) → first_of own common ≡ None �
 no_common (Some password) common is = absurd cc
 no_common None common is = is
 
+-- an empty text has one line, without a name
+no_name : (place : ℕ) → name_at (job_lines []) place ≡ None
+unfolding lines_of unended_of
+no_name zero = refl
+no_name (suc place) = refl
+
+no_double : ¬ (HasDouble (job_lines []))
+no_double double =
+    let both : None ≡ Some double.2.name = sym (no_name double.1) ∙ double.2.of_second in absurd cc
+
+-- an empty text has no wrong line and no double, so the common password is missing
+empty_list : (common : Option (List ℕ)) (jobs : List Job) → IsWrongFor jobs common (job_lines [])
+    → common ≡ None
+empty_list common jobs (inl wrong) =
+    absurd (let both : None ≡ Some wrong.0 = sym no_wrong_line ∙ wrong.1 in cc)
+empty_list common jobs (inr (inl lacks)) =
+    let job : Job = record { id = []; address = []; verb = ReadState } in
+    no_common (password_of (job_lines []) (slice_index_or jobs lacks.0 job).id) common
+    (lacks.1.lacks job)
+empty_list common jobs (inr (inr double)) = absurd (no_double double)
+
 pub text_of_list : (text : List ℕ) (common : Option (List ℕ)) (jobs : List Job)
     (fault : PasswordsFault) → GivesPasswords (job_lines text) common jobs (Err fault)
-    → IsTextFault text common (passwords_fault fault)
-text_of_list text common jobs (passwords.Line number) gives = λ empty.
-    let none : wrong_line_in 1 (job_lines text) ≡ None =
-    ap (λ (t : List ℕ). wrong_line_in 1 (job_lines t)) empty ∙ no_wrong_line in
-    absurd (let both : None ≡ Some number = sym none ∙ gives in cc)
-text_of_list text common jobs (passwords.Job place) gives = λ empty.
-    let job : Job = record { id = []; address = []; verb = ReadState } in
-    no_common (password_of (job_lines text) (slice_index_or jobs place job).id) common
-    (gives.1.lacks job)
+    → IsTextFault text common jobs (passwords_fault fault)
+text_of_list text common jobs (passwords.Line number) gives = inl (number, gives)
+text_of_list text common jobs (passwords.Job place) gives = inr (inl (place, gives.1))
 text_of_list text common jobs passwords.Memory gives = tt
 
 -- of its text
-jobs_of_fault : (found : Found) (text : List ℕ) (common : Option (List ℕ)) (fault : Fault)
-    → (first_value found (codes "passwords") ≡ None → text ≡ []) → IsTextFault text common fault
-    → IsJobsFault found common fault
-jobs_of_fault found text common program.Input empty why = λ none. why (empty none)
-jobs_of_fault found text common program.Memory empty why = tt
-jobs_of_fault found text common program.Read empty why = absurd why
-jobs_of_fault found text common program.Write empty why = absurd why
-jobs_of_fault found text common program.Listen empty why = absurd why
-jobs_of_fault found text common program.Turns empty why = absurd why
+jobs_of_fault : (found : Found) (text : List ℕ) (common : Option (List ℕ)) (jobs : List Job)
+    (fault : Fault) → (first_value found (codes "passwords") ≡ None → text ≡ [])
+    → IsTextFault text common jobs fault → IsJobsFault found common fault
+jobs_of_fault found text common jobs program.Input empty why = λ none.
+    empty_list common jobs
+    (subst (λ (t : List ℕ). IsWrongFor jobs common (job_lines t)) (empty none) why)
+jobs_of_fault found text common jobs program.Memory empty why = tt
+jobs_of_fault found text common jobs program.Read empty why = absurd why
+jobs_of_fault found text common jobs program.Write empty why = absurd why
+jobs_of_fault found text common jobs program.Listen empty why = absurd why
+jobs_of_fault found text common jobs program.Turns empty why = absurd why
 
 pub jobs_of_text : {A : Type 0} (found : Found) (text : List ℕ) (common : Option (List ℕ))
-    (result : Result A Fault) → (first_value found (codes "passwords") ≡ None → text ≡ [])
-    → IfErr result (IsTextFault text common) → IfErr result (IsJobsFault found common)
-jobs_of_text found text common (Ok value) empty why = tt
-jobs_of_text found text common (Err fault) empty why =
-    jobs_of_fault found text common fault empty why
+    (jobs : List Job) (result : Result A Fault)
+    → (first_value found (codes "passwords") ≡ None → text ≡ [])
+    → IfErr result (IsTextFault text common jobs) → IfErr result (IsJobsFault found common)
+jobs_of_text found text common jobs (Ok value) empty why = tt
+jobs_of_text found text common jobs (Err fault) empty why =
+    jobs_of_fault found text common jobs fault empty why
 
 -- ---- the plan
 

@@ -1,20 +1,27 @@
 -- Why a campaign has no plan. Its parts are tested in this order: the common password, the list of
 -- jobs, the passwords of the jobs.
 --     IsPasswordFault     why a text gave no password
+--     IsStoredFault       why a stored password is not taken
 --     IsCommonFault       why the common password is not taken
 --     IsListFault         why an input gave no jobs
+--     IsWrongFor          why the lines of a list give jobs no passwords
+--     IsTextFault         why a text gives jobs no passwords
 --     IsJobsFault         why jobs have no passwords
 --     IsPlanFault         why given jobs have no plan
 --     IsCampaignFault     why the jobs of an input have no plan
-use Rattle.std.specs.Prelude.{◌≡◌, ◌≢◌, ◌⊎◌, ℕ, codes, List, [], Option, Some, None, ⊤}
+use Rattle.std.specs.Prelude.{◌≡◌, ◌≢◌, ◌⊎◌, ℕ, codes, List, Option, Some, None, ⊤}
+use Rattle.std.specs.Prelude.{Result, Ok, Err}
 use Rattle.clap.specs.Matches.{first_value}
 use Rattle.clap.specs.declared.parser.matches.Found.{Found}
 use Rattle.acse_ber.specs.Password.{IsPassword}
 use Rattle.client_core.specs.declared.job.Job.{Job}
+use Rattle.head_end.specs.Jobs.{job_lines}
+use Rattle.head_end.specs.JobPasswords.{LacksPassword, wrong_line_in}
 use Rattle.program.specs.declared.fault.Fault.{Fault}
 use Rattle.program.specs.declared.fault.Fault.TheVariants as program
+use Rattle.head_end_commands.specs.Doubles.{HasDouble}
 use Rattle.head_end_commands.specs.Lists.{AreJobsOf, HasNoList}
-use Rattle.head_end_commands.specs.Passwords.{IsCommonPassword}
+use Rattle.head_end_commands.specs.Passwords.{IsCommonPassword, IsStored}
 
 -- whether this is why a text gave no password: it does not have 1 to 32 bytes, or else out of
 -- memory
@@ -26,17 +33,30 @@ IsPasswordFault text program.Write = ⊥
 IsPasswordFault text program.Listen = ⊥
 IsPasswordFault text program.Turns = ⊥
 
--- Whether this is why the common password is not taken. A password on the command line has the
--- fault of its text. No definition says what a file or the environment has.
+-- whether the command line has a password, and this is why its text gave none
+pub record HasGivenFault (found : Found) (fault : Fault) : Type 0 where
+  pub text : List ℕ
+  pub given : first_value found (codes "password") ≡ Some text
+  pub fault_is : IsPasswordFault text fault
+
+-- whether this is why a stored password is not taken, by how it was read: the fault of the read, or
+-- why its text gave no password
+abbrev pub IsStoredFault : Result (Option (List ℕ)) Fault → Fault → Type 0
+IsStoredFault (Ok (Some text)) fault = IsPasswordFault text fault
+IsStoredFault (Ok None) fault = ⊥
+IsStoredFault (Err unread) fault = fault ≡ unread
+
+-- whether the command line has no password, and this is why the stored one is not taken
+pub record HasStoredFault (found : Found) (fault : Fault) : Type 0 where
+  pub absent : first_value found (codes "password") ≡ None
+  pub stored : Result (Option (List ℕ)) Fault
+  pub is_stored : IsStored found stored
+  pub fault_is : IsStoredFault stored fault
+
+-- Whether this is why the common password is not taken: that of the command line, else the stored
+-- one.
 abbrev pub IsCommonFault : Found → Fault → Type 0
-IsCommonFault found program.Input = (text : List ℕ)
-    → first_value found (codes "password") ≡ Some text → ¬ (IsPassword text)
-IsCommonFault found program.Read = first_value found (codes "password") ≡ None
-IsCommonFault found program.Memory = (text : List ℕ)
-    → first_value found (codes "password") ≡ Some text → IsPassword text
-IsCommonFault found program.Write = ⊥
-IsCommonFault found program.Listen = ⊥
-IsCommonFault found program.Turns = ⊥
+IsCommonFault found fault = HasGivenFault found fault ⊎ HasStoredFault found fault
 
 -- whether this is why an input gave no jobs: it is not a list of jobs or is too long, a read
 -- failed, or out of memory
@@ -48,15 +68,20 @@ IsListFault input program.Write = ⊥
 IsListFault input program.Listen = ⊥
 IsListFault input program.Turns = ⊥
 
--- whether this is why jobs have no passwords by the lines of a text and this common password; an
--- empty text has no wrong line, so the common password is missing
-abbrev pub IsTextFault : List ℕ → Option (List ℕ) → Fault → Type 0
-IsTextFault text common program.Input = text ≡ [] → common ≡ None
-IsTextFault text common program.Memory = ⊤
-IsTextFault text common program.Read = ⊥
-IsTextFault text common program.Write = ⊥
-IsTextFault text common program.Listen = ⊥
-IsTextFault text common program.Turns = ⊥
+-- whether jobs have no passwords by these lines and this common password: a line is wrong, a job
+-- has no password, or two lines have one name
+abbrev pub IsWrongFor : List Job → Option (List ℕ) → List (List ℕ) → Type 0
+IsWrongFor jobs common lines = ((number : ℕ) × (wrong_line_in 1 lines ≡ Some number))
+    ⊎ (((place : ℕ) × LacksPassword lines common jobs place) ⊎ HasDouble lines)
+
+-- whether this is why jobs have no passwords by the lines of a text and this common password
+abbrev pub IsTextFault : List ℕ → Option (List ℕ) → List Job → Fault → Type 0
+IsTextFault text common jobs program.Input = IsWrongFor jobs common (job_lines text)
+IsTextFault text common jobs program.Memory = ⊤
+IsTextFault text common jobs program.Read = ⊥
+IsTextFault text common jobs program.Write = ⊥
+IsTextFault text common jobs program.Listen = ⊥
+IsTextFault text common jobs program.Turns = ⊥
 
 -- Whether this is why jobs have no passwords by the options and this common password. Without a
 -- file of `--passwords` no read fails, and the fault is `Input` only if the common password is

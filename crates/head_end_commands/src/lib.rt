@@ -4,6 +4,7 @@
 #![tactic(auto)]
 
 mod arguments;
+mod doubles;
 mod findings;
 mod listing;
 mod messages;

@@ -1,20 +1,21 @@
 //! The passwords of the jobs of `run` and `ask`: those of the file of `--passwords`, and the common
 //! one.
-ghost use Rattle.std.specs.Prelude.{◌≡◌, [], None, true, IfOk, IfErr, IfSome, IsNone, IsOkAnd};
+ghost use Rattle.std.specs.Prelude.{◌≡◌, [], None, true, IfOk, IfErr, IfSome, IsOkAnd};
 ghost use Rattle.std.specs.Prelude.{codes, length};
 ghost use Rattle.std.specs.List.{All};
 ghost use Rattle.std.specs.Option.{option_copied};
 ghost use Rattle.acse_ber.specs.Password.{IsPassword};
 ghost use Rattle.clap.specs.Matches.{first_value, found_of};
-ghost use Rattle.head_end.specs.JobPasswords.{HavePasswords};
+ghost use Rattle.head_end.specs.JobPasswords.{HavePasswords, wrong_line_in};
 ghost use Rattle.head_end.specs.Jobs.{job_lines};
 ghost use Rattle.program.specs.Passwords.{is_of_files};
+ghost use Rattle.head_end_commands.specs.Doubles.{HasDouble};
 ghost use Rattle.head_end_commands.specs.Faults.{list_fault, passwords_fault};
 ghost use Rattle.head_end_commands.specs.Passwords.{ArePasswords};
 ghost use Rattle.head_end_commands.specs.PlanFaults.{IsJobsFault, IsTextFault};
 
+use crate::doubles::find_double;
 use crate::messages::{LineFault, why_no_password};
-use crate::text_filter::TextFilter;
 use clap::ArgMatches;
 use cosem_axdr::Octets;
 use counted_io::{Counted, InputFault, read_to_end_within};
@@ -22,7 +23,6 @@ use head_end::{Jobs, PasswordsFault, passwords_for};
 use program::{Fault, PasswordFault, is_exposed};
 use std::fs::File;
 use std::os::unix::fs::MetadataExt;
-use text_lines::Words;
 use thiserror::Error;
 use wire_bytes::Listed;
 
@@ -119,49 +119,9 @@ fn read_list(rt: &HostRuntime, matches: &ArgMatches<'_>) -> Result<Vec<u8>, Faul
     }
 }
 
-// Returns the number of the first line of a list of passwords whose name an earlier line has, and
-// the number of that line. An empty text has no such line.
-fn find_double(text: &[u8]) -> Option<(u64, u64)>
-    ensures { text.now ≡ [] → IsNone result }
-{
-    if text.is_empty() {
-        return None;
-    }
-    let mut number: u64 = 0;
-    let mut names = TextFilter::new();
-    for line in text.split(|byte| *byte == b'\n') {
-        number = number.saturating_add(1);
-        if let Some(name) = name_of(line) {
-            if names.may_have(name) {
-                let first = first_line_of(text, name);
-                if first < number {
-                    return Some((number, first));
-                }
-            }
-            names.add(name);
-        }
-    }
-    None
-}
-
-// Returns the name of a line of a list of passwords, or `None` if the line is empty.
-fn name_of(line: &[u8]) -> Option<&[u8]> {
-    if line.is_empty() {
-        return None;
-    }
-    Words::new(line).next()
-}
-
-// Returns the number of the first line that has this name, counted from 1.
-fn first_line_of(text: &[u8], name: &[u8]) -> u64 {
-    let mut number: u64 = 0;
-    for line in text.split(|byte| *byte == b'\n') {
-        number = number.saturating_add(1);
-        if name_of(line) == Some(name) {
-            return number;
-        }
-    }
-    number
+// Returns the number, counted from 1, of the line at a place.
+fn line_number(place: usize) -> u64 {
+    (place as u64).saturating_add(1)
 }
 
 // Writes a line on standard error about a job without a password.
@@ -215,14 +175,17 @@ fn passwords_in(
         (option_copied common.entry) jobs.now) }
     ensures sized { IfOk result (λ passwords. All IsPassword passwords) }
     ensures paired { IfOk result (λ passwords. length passwords ≡ length jobs.now) }
-    ensures err { IfErr result (IsTextFault text.now (option_copied common.entry)) }
+    ensures no_wrong_line { IfOk result (λ passwords.
+        wrong_line_in 1 (job_lines text.now) ≡ None) }
+    ensures no_double { IfOk result (λ passwords. ¬ (HasDouble (job_lines text.now))) }
+    ensures err { IfErr result (IsTextFault text.now (option_copied common.entry) jobs.now) }
 {
     match passwords_for(rt.alloc(), jobs.as_slice(), text, common) {
         Ok(passwords) => match find_double(text) {
             None => Ok(passwords),
-            Some((number, first)) => {
+            Some((first, second)) => {
                 drop(passwords);
-                let fault = PasswordListFault::Double(number, first);
+                let fault = PasswordListFault::Double(line_number(second), line_number(first));
                 Err(report_list_fault(rt, path, fault))
             }
         },

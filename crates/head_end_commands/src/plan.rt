@@ -1,17 +1,16 @@
 //! `plan_campaign` and `plan_jobs`: what a campaign starts with: its options, and its jobs, which
 //! are those of the list in an input or are given.
-ghost use Rattle.std.specs.Prelude.{◌≡◌, ◌≤◌, ℕ, List, Some, true, codes, length, string_bytes};
-ghost use Rattle.std.specs.Prelude.{IfOk, IfErr, IfSome, IsSomeAnd};
+ghost use Rattle.std.specs.Prelude.{◌≡◌, ◌≤◌, Ok, codes, length, IfOk, IfErr, IfSome};
 ghost use Rattle.std.specs.List.{All};
 ghost use Rattle.acse_ber.specs.Password.{IsPassword};
-ghost use Rattle.clap.specs.Matches.{first_value, found_of};
-ghost use Rattle.program.specs.Passwords.{HasNoLineEnd, is_of_files};
+ghost use Rattle.clap.specs.Matches.{found_of};
 ghost use Rattle.head_end_commands.specs.Lists.{AreJobsOf};
 ghost use Rattle.head_end_commands.specs.Options.{AreLimits, AreWorkers, IsLimit};
 ghost use Rattle.program.specs.Values.{IsNumber};
 ghost use Rattle.head_end_commands.specs.Passwords.{ArePasswords, HasPasswords, IsCommonPassword};
+ghost use Rattle.head_end_commands.specs.Passwords.{IsStored, stored_bytes};
 ghost use Rattle.head_end_commands.specs.PlanFaults.{IsCampaignFault, IsCommonFault, IsJobsFault};
-ghost use Rattle.head_end_commands.specs.PlanFaults.{IsPasswordFault, IsPlanFault};
+ghost use Rattle.head_end_commands.specs.PlanFaults.{IsPasswordFault, IsPlanFault, IsStoredFault};
 
 use crate::listing::load_jobs;
 use crate::passwords::passwords;
@@ -117,19 +116,36 @@ fn check_password(rt: &HostRuntime, text: &str, is_verbose: bool) -> Result<Octe
 // Returns the password of the file of `--password-file`, else that of the environment. Errors:
 // `Read` if the file cannot be read; `Input` if it has no password, or if the environment's is not
 // UTF-8; `Memory`.
+#[tactic(auto, using(crate::proofs::Stored::stored_variable))]
 fn stored_password(
     rt: &HostRuntime,
     matches: &ArgMatches<'_>,
     is_verbose: bool,
 ) -> Result<Option<String>, Fault>
-    ensures one_line { IfOk result (λ password. (path : List ℕ)
-        → first_value (found_of matches.now) (codes "password-file") ≡ Some path
-        → IsSomeAnd password (λ text. HasNoLineEnd (string_bytes text))) }
-    ensures err { IfErr result (λ fault. is_of_files fault ≡ true) }
+    ensures { IsStored (found_of matches.now) (stored_bytes result) }
 {
     match matches.get_str("password-file") {
         Some(path) => Ok(Some(read_password_file(rt, path)?)),
         None => environment_password(rt, is_verbose),
+    }
+}
+
+// Returns the bytes of a stored password, by how it was read, or `None` if there is none. Errors:
+// that of the read; `Input` if the password does not have 1 to 32 bytes, with a line on standard
+// error if `is_verbose`; `Memory`.
+fn check_stored(
+    rt: &HostRuntime,
+    stored: Result<Option<String>, Fault>,
+    is_verbose: bool,
+) -> Result<Option<Octets>, Fault>
+    ensures bytes { IfOk result (λ common. stored_bytes stored ≡ Ok common) }
+    ensures sized { IfOk result (λ common. IfSome common IsPassword) }
+    ensures err { IfErr result (IsStoredFault (stored_bytes stored)) }
+{
+    match stored {
+        Ok(Some(text)) => Ok(Some(check_password(rt, text.as_str(), is_verbose)?)),
+        Ok(None) => Ok(None),
+        Err(fault) => Err(fault),
     }
 }
 
@@ -148,10 +164,8 @@ fn common_password(
     if let Some(text) = matches.get_str("password") {
         return Ok(Some(check_password(rt, text, is_verbose)?));
     }
-    match stored_password(rt, matches, is_verbose)? {
-        Some(text) => Ok(Some(check_password(rt, text.as_str(), is_verbose)?)),
-        None => Ok(None),
-    }
+    let stored = stored_password(rt, matches, is_verbose);
+    check_stored(rt, stored, is_verbose)
 }
 
 // Returns the password of each job.

@@ -1,51 +1,55 @@
 //! A filter of texts: it knows of most texts that they were not added.
-ghost use Rattle.std.specs.Prelude.{◌<◌};
+ghost use Rattle.std.specs.Prelude.{◌≡◌, ℕ, List, true};
+ghost use Rattle.head_end_commands.specs.Filters.{hash_of, has_place, place_of};
 
-// The number of words of a filter. Each has 64 bits.
-const WORDS: usize = 256;
+// The number of places of a filter.
+const PLACES: usize = 16_384;
 
-// A set of texts without the texts: of each it has one bit of 16,384, by its hash. It allocates
+// A set of texts without the texts: each marks one of 16,384 places, by its hash. It allocates
 // nothing.
 #[derive(Drop)]
 pub(crate) struct TextFilter {
-    words: [u64; WORDS],
+    marks: [bool; PLACES],
 }
 
 impl TextFilter {
     // Returns a filter without texts.
     pub(crate) fn new() -> TextFilter {
-        TextFilter { words: [0; WORDS] }
+        TextFilter {
+            marks: [false; PLACES],
+        }
     }
 
     // Adds a text to the set.
-    pub(crate) fn add(&mut self, text: &[u8]) {
-        let hash = hash_of(text);
-        self.words[word_of(hash)] |= bit_of(hash);
+    pub(crate) fn add(&mut self, text: &[u8])
+        ensures added { has_place self.new text.now ≡ true }
+        ensures kept { (other : List ℕ) → has_place self.old other ≡ true
+            → has_place self.new other ≡ true }
+    {
+        self.marks[place_of(text)] = true;
     }
 
     // Returns whether a text may have been added. `false` is certain.
-    pub(crate) fn may_have(&self, text: &[u8]) -> bool {
-        let hash = hash_of(text);
-        self.words[word_of(hash)] & bit_of(hash) != 0
+    pub(crate) fn may_have(&self, text: &[u8]) -> bool
+        ensures { result ≡ has_place self.now text.now }
+    {
+        self.marks[place_of(text)]
     }
 }
 
-// Returns the index of the word of a hash.
-fn word_of(hash: u64) -> usize
-    ensures { result < 256 }
+// Returns the place of a text.
+fn place_of(text: &[u8]) -> usize
+    ensures { result ≡ place_of text.now }
 {
-    hash as usize % WORDS
-}
-
-// Returns the bit of a hash in its word.
-fn bit_of(hash: u64) -> u64 {
-    1 << (hash / 256 % 64)
+    hash_of(text) as usize % PLACES
 }
 
 // Returns the hash of a text by the function FNV-1a of 64 bits.
-fn hash_of(text: &[u8]) -> u64 {
+fn hash_of(text: &[u8]) -> u64
+    ensures { result ≡ hash_of text.now }
+{
     let mut hash: u64 = 0xCBF2_9CE4_8422_2325;
-    for byte in text {
+    'bytes: for byte in text {
         hash = (hash ^ u64::from(*byte)).wrapping_mul(0x0100_0000_01B3);
     }
     hash

@@ -14,5 +14,6 @@ returns-in_err-text-clause-err c =
 pub returns-clause-err : goal.returns-clause-err
 returns-clause-err c =
     jobs_of_text (found_of c.args.matches.now) c.in_ok-text.text.items
-    (option_copied c.args.common) c.passwords_in-passwords.result c.in_ok-text.ensures.no_file
+    (option_copied c.args.common) c.args.jobs.now c.passwords_in-passwords.result
+    c.in_ok-text.ensures.no_file
     (rw c.as_slice.ensures.value at c.passwords_in-passwords.ensures.err)
