@@ -13,7 +13,7 @@ use Rattle.head_end_commands.specs.declared.text_filter.TextFilter.{TextFilter}
 use Rattle.head_end.specs.Jobs.{job_lines}
 use Rattle.head_end_commands.specs.Doubles.{AreDouble, HasDouble, HasNames, name_at, name_of}
 
--- what is left of a text begins at the line of this place
+-- the rest of a text begins at the line of this place
 pub record LeftFrom (text : List ℕ) (place : ℕ) (rest : List ℕ) : Type 0 where
   pub lines : (k : ℕ) → slice_get (job_lines rest) k ≡ slice_get (job_lines text) (place + k)
   pub count : place + length (lines_of rest) ≡ length (lines_of text)
