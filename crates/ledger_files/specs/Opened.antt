@@ -1,6 +1,7 @@
 -- What an open of a ledger's file finds.
 --     IsOpenedFrom      the connection sees what the files hold
-use Rattle.std.specs.Prelude.{◌≡◌}
+--     IsLedgerFrom      the entries are those that the connection shows
+use Rattle.std.specs.Prelude.{◌≡◌, ℕ, List, [], replicate}
 use Rattle.sqlite_disk.specs.declared.Disk.{Ghosts}
 use Rattle.sqlite.specs.declared.FileStore.{FileStore}
 use Rattle.sqlite.specs.Held.{Held}
@@ -8,7 +9,10 @@ use Rattle.sqlite.specs.Files.{file_state, IsOpened}
 use Rattle.sqlite.specs.Recovery.{Image}
 use Rattle.sqlite.specs.Start.{FindsIn}
 use Rattle.sqlite.specs.State.{IsUnchanged}
+use Rattle.campaign_ledger.specs.declared.entry.LedgerEntry.{LedgerEntry}
+use Rattle.campaign_ledger.specs.declared.entry.LedgerEntry.TheVariants.{NotSent}
 use Rattle.sqlite_ledger.specs.Marks.{LeavesCommit}
+use Rattle.sqlite_ledger.specs.Readings.{HasEntries}
 use Rattle.sqlite_ledger.specs.Schema.{ledger_schema}
 
 -- Whether a connection was opened over these files. If it found a ledger, that is what the files
@@ -20,3 +24,13 @@ pub record IsOpenedFrom {D : Type 0} {g : Ghosts D} (held : Image) (now : Held (
   pub found : was.schema ≡ ledger_schema → FindsIn held (file_state was)
   pub unchanged : was.schema ≡ ledger_schema → IsUnchanged (file_state was) (file_state now)
   pub settled : LeavesCommit (file_state now)
+
+-- Whether these are the entries of this number of jobs in a ledger that was opened over these
+-- files. If the open found a ledger, they are those of the marks and the outcomes that its queries
+-- show; if it found no table, no command was sent.
+pub record IsLedgerFrom {D : Type 0} {g : Ghosts D} (held : Image) (now : Held (FileStore D g))
+    (jobs : ℕ) (entries : List LedgerEntry) : Type 0 where
+  pub from : IsOpenedFrom held now
+  pub has_entries : from.was.schema ≡ ledger_schema
+      → HasEntries (λ conn. file_state conn) from.was now jobs entries
+  pub new : from.was.schema.tables ≡ [] → entries ≡ replicate jobs NotSent

@@ -1,7 +1,7 @@
 -- A run of a campaign on a ledger in a file.
 --     IsEnd             how a ledger ended, by whether a call on it failed
 --     IsRunOnFile       the open found what the file held, and the run was on this ledger
-use Rattle.std.specs.Prelude.{◌≡◌, ℕ, pos, false, List, Option, Some, None, Result, IsTrue}
+use Rattle.std.specs.Prelude.{◌≡◌, ℕ, pos, false, List, length, Option, Some, None, Result, IsTrue}
 use Rattle.sqlite_disk.specs.declared.Disk.{Ghosts}
 use Rattle.sqlite.specs.declared.FileStore.{FileStore}
 use Rattle.sqlite.specs.Held.{Held}
@@ -14,7 +14,7 @@ use Rattle.head_end.specs.Connections.{Forecast}
 use Rattle.sqlite_ledger.specs.Marks.{IsMarked, LeavesEntries}
 use Rattle.sqlite_ledger.specs.Outcomes.{IsSafe}
 use Rattle.sqlite_ledger.specs.Schema.{ledger_schema}
-use Rattle.ledger_files.specs.Opened.{IsOpenedFrom}
+use Rattle.ledger_files.specs.Opened.{IsLedgerFrom}
 use Rattle.ledger_files.specs.declared.end.LedgerEnd.{LedgerEnd}
 use Rattle.ledger_files.specs.declared.end.LedgerEnd.TheVariants.{Closed, NotClosed, Failed}
 use Rattle.ledger_campaigns.specs.declared.texts.LedgerTexts.{LedgerTexts}
@@ -28,9 +28,10 @@ IsEnd (Some ledger) Closed = ledger.has_failed ≡ false
 IsEnd (Some ledger) NotClosed = ledger.has_failed ≡ false
 IsEnd (Some ledger) Failed = IsTrue ledger.has_failed
 
--- Whether the ledger was opened from what the files held, the run was on this ledger, and the
--- ledger ended like this. The disk is honest if it returned what was written, a place is marked if
--- whatever a crash leaves has its mark, and an outcome is kept if whatever a crash leaves has it.
+-- Whether the ledger was opened from what the files held, with its entries, the run was on this
+-- ledger, and the ledger ended like this. The disk is honest if it returned what was written, a
+-- place is marked if whatever a crash leaves has its mark, and an outcome is kept if whatever a
+-- crash leaves has it.
 pub record IsRunOnFile {D F : Type 0} (g : Ghosts D) (held : Image)
     (tells : List ℕ → Option Forecast) (jobs : List Job) (passwords : List (List ℕ))
     (texts : Result LedgerTexts F) (end : LedgerEnd) : Type 0 where
@@ -38,7 +39,8 @@ pub record IsRunOnFile {D F : Type 0} (g : Ghosts D) (held : Image)
   pub now : Option (LedgerState (Held (FileStore D g)))
   pub schema_is : start.book.schema ≡ ledger_schema
   pub end_is : IsEnd now end
-  pub opened : HasCleanDisk (file_state start.book) → IsOpenedFrom held start.book
+  pub opened : HasCleanDisk (file_state start.book)
+      → IsLedgerFrom held start.book (length jobs) start.entries
   pub run : IsRunOnLedger (λ book. HasCleanDisk (file_state book))
       (λ book place. IsMarked (file_state book).may_leave (pos place))
       (λ book place outcome. IsSafe (file_state book).may_leave (pos place) outcome)

@@ -3,11 +3,13 @@
 //! A call that passes on the store of a file makes the proof read how that store works, which costs
 //! less over any disk than over a certain one. So these calls are here, once each, and the rest of
 //! the crate calls them.
-ghost use Rattle.std.specs.Prelude.{◌≡◌, length, pos, Some, IfOk, OnOk, false};
+ghost use Rattle.std.specs.Prelude.{◌≡◌, [], length, pos, replicate, Some, IfOk, OnOk, false};
 ghost use Rattle.sqlite.specs.State.{HasCleanDisk, IsUnchanged};
 ghost use Rattle.sqlite.specs.Files.{file_state};
+ghost use Rattle.campaign_ledger.specs.declared.entry.LedgerEntry.TheVariants.{NotSent};
 ghost use Rattle.sqlite_ledger.specs.Marks.{IsMarked, LeavesCommit, LeavesEntries};
 ghost use Rattle.sqlite_ledger.specs.Outcomes.{IsSafe};
+ghost use Rattle.sqlite_ledger.specs.Readings.{HasEntries};
 ghost use Rattle.sqlite_ledger.specs.Schema.{ledger_schema};
 ghost use Rattle.ledger_campaigns.specs.Texts.{IsRunOnLedger};
 ghost use Rattle.ledger_files.specs.Answered.{AreAppended};
@@ -41,7 +43,12 @@ pub(crate) fn open_on_disk<D: Disk + Drop>(
     jobs: &[Job],
 ) -> Result<Ledger<DiskBook<D>>, LedgerOpenFault>
     ensures schema { IfOk result (λ ledger. ledger.book.schema ≡ ledger_schema) }
-    ensures entries { IfOk result (λ ledger. length ledger.entries ≡ length jobs.now) }
+    ensures len { IfOk result (λ ledger. length ledger.entries ≡ length jobs.now) }
+    ensures entries { conn.schema ≡ ledger_schema → IfOk result (λ ledger.
+        HasCleanDisk (file_state ledger.book) → HasEntries (λ c. file_state c) conn ledger.book
+        (length jobs.now) ledger.entries) }
+    ensures new { conn.schema.tables ≡ []
+        → IfOk result (λ ledger. ledger.entries ≡ replicate (length jobs.now) NotSent) }
     ensures unfailed { IfOk result (λ ledger. ledger.has_failed ≡ false) }
     ensures clean { conn.schema ≡ ledger_schema → IfOk result (λ ledger.
         HasCleanDisk (file_state ledger.book) → HasCleanDisk (file_state conn)) }

@@ -18,7 +18,7 @@ ghost use Rattle.sqlite.specs.State.{HasCleanDisk};
 ghost use Rattle.sqlite.specs.Files.{file_state};
 ghost use Rattle.sqlite.specs.WalFiles.{image_at};
 ghost use Rattle.sqlite_ledger.specs.Schema.{ledger_schema};
-ghost use Rattle.ledger_files.specs.Opened.{IsOpenedFrom};
+ghost use Rattle.ledger_files.specs.Opened.{IsLedgerFrom};
 
 pub use answers::{append_answers, read_answers_of};
 pub use asking::{AskedLedger, ask_with_ledger, read_questions};
@@ -40,7 +40,8 @@ pub type BookFrom<S> = SqliteBook<FileStore<FileFrom<S>>>;
 
 /// Opens the ledger of a campaign with these jobs at a path, where `S` stands for what the files
 /// hold. A file that is missing or empty is made, with the tables and the jobs; only its owner may
-/// access a new one.
+/// access a new one. The entries are those of the marks and the outcomes that the queries of an
+/// existing ledger show; those of a new one are all `NotSent`.
 ///
 /// Errors: `NotALedger` for a file that holds something else, `OtherList` for the ledger of another
 /// list of jobs, `Busy` if another process has it open, `File` and `Memory`.
@@ -51,10 +52,10 @@ pub fn open_ledger_from<S: Start>(
     start: S,
 ) -> Result<Ledger<BookFrom<S>>, LedgerOpenFault>
     ensures schema { IfOk result (λ ledger. ledger.book.schema ≡ ledger_schema) }
-    ensures entries { IfOk result (λ ledger. length ledger.entries ≡ length jobs.now) }
+    ensures len { IfOk result (λ ledger. length ledger.entries ≡ length jobs.now) }
     ensures unfailed { IfOk result (λ ledger. ledger.has_failed ≡ false) }
     ensures found { IfOk result (λ ledger. HasCleanDisk (file_state ledger.book)
-        → IsOpenedFrom (image_at S.Start) ledger.book) }
+        → IsLedgerFrom (image_at S.Start) ledger.book (length jobs.now) ledger.entries) }
 {
     make_private(rt, path);
     let conn = match Connection::open_from(rt, path, false, start) {

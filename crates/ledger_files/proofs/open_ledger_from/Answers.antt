@@ -10,9 +10,13 @@ returns-in-Ok-open_on_disk-clause-found g c clean =
     let early : was.schema ≡ ledger_schema → HasCleanDisk (file_state was) = λ ledger.
     c.in-Ok-open_on_disk.ensures.clean ledger clean in
     record {
-      was = was;
-      opened = λ ledger. c.in-Ok.ensures.opened (early ledger);
-      found = λ ledger. c.in-Ok.ensures.found (early ledger);
-      unchanged = λ ledger. c.in-Ok-open_on_disk.ensures.unchanged ledger clean;
-      settled = c.in-Ok-open_on_disk.ensures.settled;
+      from = record {
+        was = was;
+        opened = λ ledger. c.in-Ok.ensures.opened (early ledger);
+        found = λ ledger. c.in-Ok.ensures.found (early ledger);
+        unchanged = λ ledger. c.in-Ok-open_on_disk.ensures.unchanged ledger clean;
+        settled = c.in-Ok-open_on_disk.ensures.settled;
+      };
+      has_entries = λ ledger. c.in-Ok-open_on_disk.ensures.entries ledger clean;
+      new = c.in-Ok-open_on_disk.ensures.new;
     }
