@@ -1,2 +1,3 @@
 pub mod AppendedStates
 pub mod NextRun
+pub mod ReadStates

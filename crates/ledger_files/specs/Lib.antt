@@ -3,4 +3,5 @@
 pub mod Answered
 pub mod Asked
 pub mod Opened
+pub mod Reading
 pub mod Runs

@@ -3,6 +3,7 @@ ghost use Rattle.std.specs.Prelude.{◌++◌, ◌≡◌, codes, string_bytes, If
 ghost use Rattle.sqlite.specs.Held.{state};
 ghost use Rattle.sqlite.specs.WalFiles.{image_at};
 ghost use Rattle.ledger_files.specs.Answered.{AreAppended, AreAppendedTo, AreRecorded};
+ghost use Rattle.ledger_files.specs.Reading.{AreAnswersFrom, AreAnswersRead};
 
 use crate::disks::{append_on_disk, read_answers_on_disk};
 use crate::make_private;
@@ -139,29 +140,50 @@ fn has_answers(rt: &HostRuntime, path: &str) -> Result<bool, LedgerOpenFault> {
 pub(crate) fn read_all<T: Alter + Drop>(
     rt: &HostRuntime,
     conn: Connection<T>,
-) -> Result<Vec<StateAnswer>, LedgerOpenFault> {
+) -> Result<Vec<StateAnswer>, LedgerOpenFault>
+    ensures { IfOk result (λ answers. AreAnswersRead (λ c. state T.Store c) conn answers.items) }
+{
     let mut conn = conn;
     let answers = read_answers_if_made(rt.alloc(), &mut conn);
     drop(conn);
     answers
 }
 
-/// Returns the answers in the file next to the ledger at `path`, the first one first, or none if
-/// there is no such file, it is empty, or has no table yet. SQLite's log, the file with the ending
+/// Returns the answers in the file next to the ledger at `path`, where `S` stands for what that
+/// file holds, the first one first, or none if there is no such file, it is empty, or has no table
+/// yet. They are those that the query of all answers shows. SQLite's log, the file with the ending
 /// `-wal`, is made if it is missing.
 ///
 /// Errors: `Memory`; `Answers` for a file that holds something else; `Busy` if another process has
 /// the file of answers open; `File`.
-pub fn read_answers_of(rt: &HostRuntime, path: &str) -> Result<Vec<StateAnswer>, LedgerOpenFault> {
+pub fn read_answers_from<S: Start>(
+    rt: &HostRuntime,
+    path: &str,
+    start: S,
+) -> Result<Vec<StateAnswer>, LedgerOpenFault>
+    ensures { IfOk result (λ answers. AreAnswersFrom ⟦<FileFrom<S> as Disk>⟧ (image_at S.Start)
+        answers.items) }
+{
     let name = answers_path(rt.alloc(), path)?;
     if !has_answers(rt, name.as_str())? {
         return Ok(Vec::new(rt.alloc()));
     }
-    match Connection::open_from(rt, name.as_str(), false, Unknown) {
+    match Connection::open_from(rt, name.as_str(), false, start) {
         Ok(conn) => read_answers_on_disk(rt, conn),
         Err((error, left)) => {
             drop(left);
             Err(answers_fault(error))
         }
     }
+}
+
+/// Returns the answers in the file next to the ledger at `path`, as [`read_answers_from`] does. Its
+/// clause says what the connection shows, and nothing of what files that are not empty hold.
+///
+/// Errors: those of [`read_answers_from`].
+pub fn read_answers_of(rt: &HostRuntime, path: &str) -> Result<Vec<StateAnswer>, LedgerOpenFault>
+    ensures { IfOk result (λ answers. AreAnswersFrom ⟦<FileFrom<Unknown> as Disk>⟧
+        (image_at ⟦<Unknown as Start>⟧) answers.items) }
+{
+    read_answers_from(rt, path, Unknown)
 }

@@ -13,6 +13,7 @@ ghost use Rattle.sqlite_ledger.specs.Readings.{HasEntries};
 ghost use Rattle.sqlite_ledger.specs.Schema.{ledger_schema};
 ghost use Rattle.ledger_campaigns.specs.Texts.{IsRunOnLedger};
 ghost use Rattle.ledger_files.specs.Answered.{AreAppended};
+ghost use Rattle.ledger_files.specs.Reading.{AreAnswersRead, AreLinesRead};
 ghost use Rattle.ledger_files.specs.Runs.{IsEnd};
 
 use crate::answers::{append_all, read_all};
@@ -106,7 +107,9 @@ pub(crate) fn close_on_disk<D: Disk + Drop>(ledger: Ledger<DiskBook<D>>) -> Ledg
 pub(crate) fn read_on_disk<D: Disk + Drop>(
     rt: &HostRuntime,
     conn: Connection<FileStore<D>>,
-) -> Result<Vec<LedgerLine>, LedgerOpenFault> {
+) -> Result<Vec<LedgerLine>, LedgerOpenFault>
+    ensures { IfOk result (λ lines. AreLinesRead (λ c. file_state c) conn lines.items) }
+{
     read_and_drop(rt, conn)
 }
 
@@ -125,6 +128,8 @@ pub(crate) fn append_on_disk<D: Disk + Drop>(
 pub(crate) fn read_answers_on_disk<D: Disk + Drop>(
     rt: &HostRuntime,
     conn: Connection<FileStore<D>>,
-) -> Result<Vec<StateAnswer>, LedgerOpenFault> {
+) -> Result<Vec<StateAnswer>, LedgerOpenFault>
+    ensures { IfOk result (λ answers. AreAnswersRead (λ c. file_state c) conn answers.items) }
+{
     read_all(rt, conn)
 }

@@ -20,14 +20,14 @@ ghost use Rattle.sqlite.specs.WalFiles.{image_at};
 ghost use Rattle.sqlite_ledger.specs.Schema.{ledger_schema};
 ghost use Rattle.ledger_files.specs.Opened.{IsLedgerFrom};
 
-pub use answers::{append_answers, read_answers_of};
+pub use answers::{append_answers, read_answers_from, read_answers_of};
 pub use asking::{AskedLedger, ask_with_ledger, read_questions};
 use campaign_ledger::Ledger;
 use client_core::Job;
 use disks::open_on_disk;
 pub use end::LedgerEnd;
 pub use laws::the_next_run_finds_what_was_left;
-pub use reading::read_ledger;
+pub use reading::{read_ledger, read_ledger_from};
 pub use runs::{LedgerReport, run_with_ledger};
 use sqlite::{Connection, FileFrom, FileStore, Start};
 use sqlite_ledger::{LedgerOpenFault, SqliteBook};
