@@ -4,11 +4,12 @@
 --     IsText          bytes that are whole lines without a byte 0, and nothing else
 --     IsPlain         a line that a text can hold, of text_lines
 --     IsBetween       some lines, followed by a front of others
+--     HasLinesAfterDamage   whole lines follow a damaged one
 --     IsSettled       a file of whole lines, all of them on the disk
-use Rattle.std.specs.Prelude.{◌≡◌, ◌≤◌, ◌==◌, ℕ, List, [], ◌∷◌, ◌++◌, length, take}
+use Rattle.std.specs.Prelude.{◌≡◌, ◌≤◌, ◌==◌, ℕ, List, [], ◌∷◌, ◌++◌, length, take, drop}
 use Rattle.std.specs.Prelude.{if◌then◌else◌}
 unfoldable pub use Rattle.text_lines.specs.Lines.{text_of}
-pub use Rattle.text_lines.specs.Lines.{IsPlain}
+pub use Rattle.text_lines.specs.Lines.{IsPlain, lines_of}
 use Rattle.durable_lines.specs.CrashModel.{HasOneOutcome}
 
 -- the whole lines of bytes that follow the beginning of a line, up to the first byte 0
@@ -26,6 +27,11 @@ lines_in bytes = lines_after [] bytes
 -- whether bytes are whole lines without a byte 0, and nothing else
 abbrev pub IsText : List ℕ → Type 0
 IsText bytes = bytes ≡ text_of (lines_in bytes)
+
+-- whether whole lines follow a damaged one: after the whole lines before the first byte 0, two
+-- lines or more end. Such bytes are not what one interrupted line leaves
+abbrev pub HasLinesAfterDamage : List ℕ → Type 0
+HasLinesAfterDamage bytes = 2 ≤ length (lines_of (drop (length (text_of (lines_in bytes))) bytes))
 
 -- whether bytes are the old lines, followed by a front of the added ones
 abbrev pub IsBetween : List (List ℕ) → List (List ℕ) → List (List ℕ) → Type 0

@@ -1,6 +1,8 @@
 //! `LockFile`: a file whose lock one process at a time holds.
 use crate::fault::LockFault;
-use std::fs::{File, Files, TryLockError};
+use crate::own_file::{FileAccess, OWNER_ONLY, open_or_create};
+use std::fs::{File, Files, Permissions, TryLockError};
+use std::os::unix::fs::PermissionsExt;
 
 /// The lock of a file that has no other purpose. It is not removed or renamed, so that its lock
 /// stands for a name whose own file is replaced: whoever holds it may replace that file.
@@ -12,12 +14,15 @@ pub struct LockFile {
 
 impl LockFile {
     /// Locks the file of a path, until the value is dropped or the process ends. The file is
-    /// created if it is missing; its bytes are not changed. Errors: `Held` if another process has
-    /// locked it, `Failed` if it cannot be opened or locked.
+    /// created if it is missing, so that only its owner may open it; its bytes are not changed.
+    /// Errors: `Held` if another process has locked it, `Failed` if it cannot be opened or locked,
+    /// or the path ends in a symbolic link.
     pub fn try_lock<R: Files<File = File>>(files: &R, path: &str) -> Result<LockFile, LockFault> {
-        let mut options = File::options();
-        options.read(true).write(true).create(true);
-        let file = options.open(files, path).map_err(|_| LockFault::Failed)?;
+        let file = open_or_create(files, path, FileAccess::Write, OWNER_ONLY).map_err(
+            |_| LockFault::Failed,
+        )?;
+        // (who may open a file may lock it; an earlier version let all users open it)
+        let _ = file.set_permissions(Permissions::from_mode(OWNER_ONLY));
         match file.try_lock() {
             Ok(()) => Ok(LockFile { _file: file }),
             Err(TryLockError::WouldBlock) => Err(LockFault::Held),

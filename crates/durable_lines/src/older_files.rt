@@ -1,4 +1,5 @@
 //! The files that a name had before: each replacement gives them further names.
+use crate::own_file::is_same_file;
 use std::fs::{File, Files};
 use std::io::ErrorKind;
 use std::{fs, io};
@@ -21,8 +22,20 @@ fn shift<R: Files<File = File>>(files: &R, names: &[String]) -> io::Result<()> {
     Ok(())
 }
 
+// Returns whether two paths name one file.
+fn name_one_file<R: Files<File = File>>(files: &R, first: &str, second: &str) -> bool {
+    match (
+        fs::symlink_metadata(files, first),
+        fs::symlink_metadata(files, second),
+    ) {
+        (Ok(first), Ok(second)) => is_same_file(&first, &second),
+        _ => false,
+    }
+}
+
 // Gives the file of a path the first of these names too, after the file of each name got the next
-// one. The file of the last name is removed. With no names, does nothing.
+// one. The file of the last name is removed. With no names, does nothing. If the file has the first
+// name already, because a crash ended the last replacement here, the names stay.
 pub(crate) fn keep_older<R: Files<File = File>>(
     files: &R,
     path: &str,
@@ -31,6 +44,9 @@ pub(crate) fn keep_older<R: Files<File = File>>(
     let Some(first) = names.first() else {
         return Ok(());
     };
+    if name_one_file(files, path, first.as_str()) {
+        return Ok(());
+    }
     shift(files, names)?;
     // (a rename does nothing if both names have one file, as a crash may leave them)
     unless_missing(fs::remove_file(files, first.as_str()))?;

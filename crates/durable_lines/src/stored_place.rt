@@ -6,6 +6,7 @@ ghost use Rattle.durable_lines.specs.StoredPlace.{with_file, HasFailed};
 use crate::durable_file::DurableFile;
 use crate::fault::{FileFault, record_failure};
 use crate::older_files::keep_older;
+use crate::own_file::create_anew;
 use crate::place::Place;
 use crate::stored_file::StoredFile;
 use std::alloc::Global;
@@ -22,11 +23,16 @@ pub struct PlacePaths {
     /// The paths of the files that were replaced: the last one, the one before it, and so on.
     /// Earlier ones are removed. If there are any paths, the file system must have hard links.
     pub older: Vec<String>,
+    /// The permissions of a draft that is made.
+    pub mode: u32,
 }
 
 /// A name in a folder of the operating system, and a second name there for drafts. It has no file
 /// until it is given one or its file is replaced; until then, reads and writes fail. After a call
 /// failed, every later call fails, too, but `renew`, which does nothing.
+///
+/// The name may have its file by a rename of a process that was killed before it had synced the
+/// folder. So the first sync also syncs the folder.
 ///
 /// As for a [`StoredFile`], nothing is claimed of the bytes: that such a name acts as the crash
 /// model says is a premise. Hold a [`LockFile`](crate::LockFile) of the name as long as its file
@@ -38,7 +44,7 @@ pub struct StoredPlace<R: Files<File = File> + Drop> {
     paths: PlacePaths,
     limit: usize,
     file: Option<StoredFile>,
-    // The file got the name by a rename that is not on the disk.
+    // The file may have got the name by a rename that is not on the disk.
     is_renamed: bool,
     has_failed: bool,
 }
@@ -55,7 +61,7 @@ impl<R: Files<File = File> + Drop> StoredPlace<R> {
             paths,
             limit,
             file: None,
-            is_renamed: false,
+            is_renamed: true,
             has_failed: false,
         }
     }
@@ -69,21 +75,18 @@ impl<R: Files<File = File> + Drop> StoredPlace<R> {
     }
 }
 
-// Opens a draft, creates it if it is missing, locks it and empties it.
+// Creates an empty draft, after one that a killed process left was removed, and locks it.
 fn open_draft<R: Files<File = File>>(
     files: &R,
     path: &str,
+    mode: u32,
     limit: usize,
 ) -> Result<StoredFile, FileFault>
     ensures unfailed { IfOk result (λ draft. ¬ FileHasFailed draft) }
     ensures not_too_long { ¬ IsErrOf result FileFault.TooLong }
 {
-    let mut options = File::options();
-    options.read(true).write(true).create(true);
-    let file = options.open(files, path).map_err(|_| FileFault::Failed)?;
-    let mut draft = StoredFile::try_lock(file, limit).map_err(|_| FileFault::Failed)?;
-    draft.cut(0)?;
-    Ok(draft)
+    let file = create_anew(files, path, mode).map_err(|_| FileFault::Failed)?;
+    StoredFile::try_lock(file, limit).map_err(|_| FileFault::Failed)
 }
 
 // Gives the path of a file to a draft, after the file has got the first of the older paths.
@@ -197,7 +200,8 @@ impl<R: Files<File = File> + Drop> Place for StoredPlace<R> {
         if self.has_failed {
             return Err(FileFault::Failed);
         }
-        let call = open_draft(&self.files, self.paths.draft.as_str(), self.limit);
+        let path = self.paths.draft.as_str();
+        let call = open_draft(&self.files, path, self.paths.mode, self.limit);
         record_failure(&mut self.has_failed, call)
     }
 

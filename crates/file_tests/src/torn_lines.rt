@@ -1,8 +1,8 @@
 //! Lines in a file after a crash: each torn state of an append, crashes during a recovery, and a
 //! sync that fails; and a file of the operating system.
 use durable_lines::{
-    ByteFate, DurableFile, FileFault, LockFault, MemoryFile, StoredFile, append_lines, is_text,
-    recover,
+    ByteFate, DurableFile, FileFault, LockFault, MemoryFile, StoredFile, append_lines, damaged_at,
+    is_text, recover,
 };
 use std::alloc::{AllocError, Global};
 use std::fs::File;
@@ -51,6 +51,37 @@ static TORN: [(&[u8], &[u8]); 9] = [
     (b"\0a\n", b""),
     (b"\n\0", b"\n"),
 ];
+
+// The bytes of files in which whole lines follow a damaged one, each with the length of the lines
+// before it.
+static DAMAGED: [(&[u8], usize); 4] = [
+    (b"a\n\0\nb\n", 2),
+    (b"a\nb\0c\nd\n", 2),
+    (b"\0a\nb\n", 0),
+    (b"a\nb\nc\0\0\nd\ne\nf", 4),
+];
+
+// The bytes of files that one interrupted line may leave.
+static UNDAMAGED: [&[u8]; 7] = [
+    b"",
+    b"a\nb\n",
+    b"a\nb",
+    b"a\nb\0c\n",
+    b"a\nb\0\0",
+    b"\0a\n",
+    b"\n\0",
+];
+
+#[test]
+fn damage_is_what_whole_lines_follow(rt: HostRuntime) -> Result<(), Fail> {
+    for (bytes, len) in &DAMAGED {
+        assert!(rt; damaged_at(bytes) == Some(*len), "{bytes:?}");
+    }
+    for bytes in &UNDAMAGED {
+        assert!(rt; damaged_at(bytes).is_none(), "{bytes:?}");
+    }
+    Ok(())
+}
 
 #[test]
 fn a_file_is_cut_after_its_whole_lines(rt: HostRuntime) -> Result<(), Fail> {

@@ -44,6 +44,7 @@ pub renew_unwritten : (text : List ℕ) (told : Trace) (given : StartFault)
     → trace_of text ≡ Ok told → IsUnwritable given → IsRenewFault text given
 renew_unwritten text told (journal.Line number) is unwritable = inr (told, is, unwritable)
 renew_unwritten text told journal.Counted is unwritable = unwritable
+renew_unwritten text told (journal.Damaged at) is unwritable = unwritable
 renew_unwritten text told journal.OtherMeter is unwritable = (told, is)
 renew_unwritten text told journal.TooLong is unwritable = tt
 renew_unwritten text told journal.File is unwritable = tt

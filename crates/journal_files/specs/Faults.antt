@@ -6,8 +6,8 @@
 --     IsBeginFault    the journal of a recorder is not begun for this fault
 --     IsUnwritable    a renewed journal is not written for this fault
 --     IsRenewFault    a text is not renewed for this fault
-use Rattle.std.specs.Prelude.{◌≡◌, ◌⊎◌, ℕ, List, Ok, Err, ⊤}
-use Rattle.durable_lines.specs.Lines.{IsText}
+use Rattle.std.specs.Prelude.{◌≡◌, ◌⊎◌, ℕ, List, Ok, Err, ⊤, length}
+use Rattle.durable_lines.specs.Lines.{lines_in, text_of, HasLinesAfterDamage, IsText}
 use Rattle.durable_lines.specs.declared.fault.FileFault.{FileFault}
 use Rattle.durable_lines.specs.declared.fault.FileFault.TheVariants as file
 use Rattle.journal_files.specs.declared.fault.StartFault.{StartFault}
@@ -37,17 +37,20 @@ abbrev pub IsRefusal : StartFault → Type 0
 IsRefusal (journal.Line number) = ⊤
 IsRefusal journal.Counted = ⊤
 IsRefusal journal.OtherMeter = ⊤
+IsRefusal (journal.Damaged at) = ⊤
 IsRefusal _ = ⊥
 
 -- Whether a text is refused for this fault as the journal of the meter with this name: it is not a
--- trace, or one but not a journal, or a journal but of another meter. The other faults are those of
--- its file, and out of memory.
+-- trace, or one but not a journal, or a journal but of another meter, or whole lines follow a
+-- damaged one. The other faults are those of its file, and out of memory.
 abbrev pub IsResumeFault : (device text : List ℕ) → StartFault → Type 0
 IsResumeFault device text (journal.Line number) = trace_of text ≡ Err (trace.Line number)
 IsResumeFault device text journal.Counted =
     (told : Trace) × (trace_of text ≡ Ok told) × (IsJournal text → ⊥)
 IsResumeFault device text journal.OtherMeter = (told : Trace) × (trace_of text ≡ Ok told)
     × IsJournal text × (told.opening.device ≡ device → ⊥)
+IsResumeFault device text (journal.Damaged at) = (at ≡ length (text_of (lines_in text)))
+    × HasLinesAfterDamage text
 IsResumeFault device text _ = ⊤
 
 -- Whether the journal of a recorder is not begun for this fault: line 1 stands for a text that is
@@ -57,6 +60,7 @@ IsBeginFault recorder (journal.Line number) =
     (number ≡ 1) × (text : List ℕ) × IsJournalOf recorder text × (IsText text → ⊥)
 IsBeginFault recorder journal.Counted = ⊥
 IsBeginFault recorder journal.OtherMeter = ⊥
+IsBeginFault recorder (journal.Damaged at) = ⊥
 IsBeginFault recorder _ = ⊤
 
 -- whether the text of a renewed journal is not written for this fault; line 1 stands for a text
@@ -64,6 +68,7 @@ IsBeginFault recorder _ = ⊤
 abbrev pub IsUnwritable : StartFault → Type 0
 IsUnwritable (journal.Line number) = number ≡ 1
 IsUnwritable journal.Counted = ⊥
+IsUnwritable (journal.Damaged at) = ⊥
 IsUnwritable journal.File = ⊥
 IsUnwritable _ = ⊤
 
@@ -73,5 +78,6 @@ abbrev pub IsRenewFault : (text : List ℕ) → StartFault → Type 0
 IsRenewFault text (journal.Line number) = (trace_of text ≡ Err (trace.Line number))
     ⊎ ((told : Trace) × (trace_of text ≡ Ok told) × (number ≡ 1))
 IsRenewFault text journal.Counted = ⊥
+IsRenewFault text (journal.Damaged at) = ⊥
 IsRenewFault text journal.OtherMeter = (told : Trace) × (trace_of text ≡ Ok told)
 IsRenewFault text _ = ⊤

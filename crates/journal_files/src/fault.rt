@@ -13,17 +13,21 @@ use trace_player::TraceFault;
 pub enum StartFault {
     /// The number, counted from 1, of the first line that is missing, malformed, or has a value
     /// that no meter has.
-    #[error("line {0} is not that of a journal; trace_player --verbose says what was expected")]
+    #[error("line {0} is not that of a journal; trace_player says what was expected")]
     Line(u64),
     /// The text has more than 33,554,432 bytes.
     #[error("expected at most 33554432 bytes")]
     TooLong,
-    /// The text is a trace with a number of events, to which none can be appended.
-    #[error("expected a journal, which has the line `events -`; found a trace of counted events")]
+    /// The text is a trace with a number of events, or of version 1, to which none can be appended.
+    #[error("expected a journal, a trace of version 2 with `events -`; found counted events or version 1")]
     Counted,
     /// The device name is that of another meter.
     #[error("the journal of a meter with another device name")]
     OtherMeter,
+    /// The line after this number of bytes is damaged, and whole lines follow it. An interrupted
+    /// write damages the last line only.
+    #[error("damaged after byte {0}, and whole lines follow: restore a copy, or keep this one and cut it there")]
+    Damaged(usize),
     /// A call on the file or its folder failed.
     #[error("reading, writing or syncing failed")]
     File,

@@ -1,6 +1,6 @@
 //! Resumes a journal: judges its text, cuts an interrupted line, and continues where its lines end.
 ghost use Rattle.std.specs.Prelude.{◌≡◌, ◌≢◌, [], Ok, IfOk, IfErr, OnOk, IsErrOf};
-ghost use Rattle.durable_lines.specs.Lines.{IsSettled, lines_in, text_of};
+ghost use Rattle.durable_lines.specs.Lines.{HasLinesAfterDamage, IsSettled, lines_in, text_of};
 ghost use Rattle.journal_files.specs.Faults.{IsRefusal, IsResumeFault};
 ghost use Rattle.journal_files.specs.Journals.{Continues};
 ghost use Rattle.relay_core.specs.Opening.{IsFitOpening};
@@ -10,7 +10,7 @@ ghost use Rattle.trace_player.specs.Traces.{trace_of};
 
 use crate::fault::StartFault;
 use cosem_axdr::Octets;
-use durable_lines::{DurableFile, recover};
+use durable_lines::{DurableFile, damaged_at, recover};
 use relay_recorder::{Recorder, Trace};
 use std::alloc::Global;
 use trace_player::{is_journal, read_trace, resume_recorder};
@@ -31,6 +31,7 @@ fn judge_trace(alloc: Global, text: &[u8], device: &Octets) -> Result<Trace, Sta
     ensures journal { OnOk result (IsJournal text.now) }
     ensures fit { IfOk result (λ trace. IsFitOpening trace.opening) }
     ensures device { IfOk result (λ trace. trace.opening.device ≡ device.now) }
+    ensures undamaged { OnOk result (¬ HasLinesAfterDamage text.now) }
     ensures cause { IfErr result (IsResumeFault device.now text.now) }
     ensures unfailed { IfErr result (λ fault. fault ≢ StartFault.File) }
 {
@@ -43,6 +44,10 @@ fn judge_trace(alloc: Global, text: &[u8], device: &Octets) -> Result<Trace, Sta
         drop(trace);
         return Err(StartFault::OtherMeter);
     }
+    if let Some(at) = damaged_at(text) {
+        drop(trace);
+        return Err(StartFault::Damaged(at));
+    }
     Ok(trace)
 }
 
@@ -52,8 +57,9 @@ fn judge_trace(alloc: Global, text: &[u8], device: &Octets) -> Result<Trace, Sta
 /// [`append_lines`](durable_lines::append_lines).
 ///
 /// Errors, in this order: `File` if a call on the file failed; `TooLong`; `Line` with the number of
-/// the first line that is not that of a trace; `Counted`; `OtherMeter`. After these the file is as
-/// it was, unless a call failed after the text was found right. `Memory` can occur at any point.
+/// the first line that is not that of a trace; `Counted`; `OtherMeter`; `Damaged` if whole lines
+/// follow a damaged one. After these the file is as it was, unless a call failed after the text was
+/// found right. `Memory` can occur at any point.
 #[tactic(auto, using(crate::proofs::FaultLemmas::resume_faults))]
 pub fn resume_journal<F: DurableFile>(
     alloc: Global,
@@ -71,6 +77,8 @@ pub fn resume_journal<F: DurableFile>(
     ensures failed { IsErrOf result StartFault.File → F.has_failed file.new }
     ensures refused { IfErr result (λ fault. IsRefusal fault
         → F.seen file.new ≡ F.seen file.old) }
+    // Nothing is cut but the last line: no whole line follows what is cut.
+    ensures cut { OnOk result (F.acts_as_file → ¬ HasLinesAfterDamage (F.seen file.old)) }
     ensures seen { OnOk result (F.acts_as_file
         → F.seen file.new ≡ text_of (lines_in (F.seen file.old))) }
     ensures settled { OnOk result (F.acts_as_file
