@@ -5,8 +5,8 @@ ghost use Rattle.relay_core.specs.Opening.{IsFitOpening};
 
 use counted_io::Monitored;
 use meter_console::{
-    Console, ConsoleEnd, ConsoleObserver, ConsoleSources, EventSink, LineBuffer, Reading,
-    console_event, run_console, start,
+    ClockGuard, Console, ConsoleEnd, ConsoleObserver, ConsoleSources, EventSink, LineBuffer,
+    Reading, console_event, is_clock_step, run_console, start,
 };
 use meter_server::{BlockSource, ButtonSource, MomentSource};
 use relay_core::{Event, Reply};
@@ -17,6 +17,7 @@ use std::io;
 use std::io::{BufReader, ErrorKind, Read};
 use std::sync::Wait;
 use std::test::Fail;
+use std::thread::Threads;
 use trace_player::resume_recorder;
 
 // A remote disconnection, samples and a moment; and one more line after them.
@@ -260,6 +261,7 @@ fn each_worker_gets_its_own_events(rt: HostRuntime) -> Result<(), Fail> {
         input: b"moment 5\nsamples 10 20\nbutton\n".as_slice(),
         console,
         errors: rt,
+        guard: guard(rt, None, false),
         is_verbose: false,
         ended: Silent,
     };
@@ -267,6 +269,75 @@ fn each_worker_gets_its_own_events(rt: HostRuntime) -> Result<(), Fail> {
     assert!(rt; are_right(sources));
     let end = thread.join(&rt);
     assert!(rt; !end.has_failed() && end.lost() == 0);
+    Ok(())
+}
+
+/// Returns the guard of a meter with this last moment.
+fn guard(
+    rt: HostRuntime,
+    last: Option<u32>,
+    accepts_steps: bool,
+) -> ClockGuard<HostRuntime, HostRuntime> {
+    ClockGuard {
+        clock: rt,
+        errors: rt,
+        last,
+        accepts_steps,
+        held_back: 0,
+    }
+}
+
+#[test]
+fn a_step_is_more_than_a_day_ahead(rt: HostRuntime) -> Result<(), Fail> {
+    assert!(rt; !is_clock_step(None, None, u32::MAX));
+    assert!(rt; !is_clock_step(Some(1_000), None, 87_400));
+    assert!(rt; is_clock_step(Some(1_000), None, 87_401));
+    assert!(rt; !is_clock_step(Some(1_000), Some(1_000), 0));
+    assert!(rt; is_clock_step(Some(1_000), Some(0), 86_401));
+    assert!(rt; is_clock_step(None, Some(0), 86_401));
+    Ok(())
+}
+
+/// Returns the first moments that a console with these lines gives to its worker.
+fn moments_of<R: Threads + Wait + Copy + Drop + Send + 'static>(
+    rt: HostRuntime,
+    threads: &R,
+    lines: &'static [u8],
+    accepts_steps: bool,
+) -> Result<(Option<u32>, Option<u32>), Fail> {
+    let (console, sources) = Console::new(threads, rt.alloc())?;
+    let reading = Reading {
+        input: lines,
+        console,
+        errors: rt,
+        guard: guard(rt, Some(1_000), accepts_steps),
+        is_verbose: false,
+        ended: Silent,
+    };
+    let thread = start(threads, rt.alloc(), reading).ok_or("no thread")?;
+    let ConsoleSources {
+        blocks,
+        mut moments,
+        presses,
+    } = sources;
+    let first = moments.next_moment();
+    let second = moments.next_moment();
+    let end = thread.join(threads);
+    drop(blocks);
+    drop(presses);
+    if end.has_failed() {
+        return Err(Fail::from("the console fails"));
+    }
+    Ok((first, second))
+}
+
+#[test]
+fn a_moment_far_ahead_is_held_back(rt: HostRuntime) -> Result<(), Fail> {
+    let lines = b"moment 87401\nmoment 87400\nmoment 87401\n".as_slice();
+    let held = moments_of(rt, &rt, lines, false)?;
+    assert!(rt; held == (Some(87_400), Some(87_401)));
+    let passed = moments_of(rt, &rt, lines, true)?;
+    assert!(rt; passed == (Some(87_401), Some(87_400)));
     Ok(())
 }
 

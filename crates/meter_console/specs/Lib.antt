@@ -1,4 +1,5 @@
 -- What the contracts of the console of a served meter refer to.
+pub mod Clocks
 pub mod Console
 pub mod Ends
 pub mod Lines

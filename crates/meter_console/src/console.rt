@@ -1,10 +1,12 @@
 //! The console: the buffer for its lines, and the channels to the meter's own workers.
 use crate::channels::{ConsoleSources, SourcesEnd, WorkerChannels, end_sources, open_channels};
+use crate::clock_guard::{ClockGuard, GuardedSink};
 use crate::lines::LineBuffer;
 use crate::running::{ConsoleEnd, run_console};
 use std::alloc::{AllocError, Global};
 use std::io::BufRead;
 use std::sync::Wait;
+use std::time::Clock;
 
 /// The memory and the channels of the console's thread; its input is passed later.
 #[derive(Drop)]
@@ -27,21 +29,23 @@ impl<R: Wait + Copy + Drop> Console<R> {
         SourcesEnd::from_channels(&self.channels)
     }
 
-    // Passes the events of an input's lines to the workers, as [`run_console`] does. The sources
-    // end when it returns.
-    pub(crate) fn run<B: BufRead, E: Eprint>(
+    // Passes the events of an input's lines to the workers, as [`run_console`] does, but for the
+    // moments that the guard holds back. The sources end when it returns.
+    pub(crate) fn run<B: BufRead, T: Clock + Drop, E: Eprint + Drop>(
         self,
         alloc: Global,
         input: &mut B,
         errors: &E,
+        guard: ClockGuard<T, E>,
         is_verbose: bool,
     ) -> ConsoleEnd {
-        let Console {
-            buffer,
-            mut channels,
-        } = self;
-        let end = run_console(alloc, input, buffer, &mut channels, errors, is_verbose);
-        end_sources(&channels);
+        let Console { buffer, channels } = self;
+        let mut sink = GuardedSink {
+            sink: channels,
+            guard,
+        };
+        let end = run_console(alloc, input, buffer, &mut sink, errors, is_verbose);
+        end_sources(&sink.sink);
         end
     }
 }

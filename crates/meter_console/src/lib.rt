@@ -5,6 +5,7 @@
 #![tactic(auto)]
 
 mod channels;
+mod clock_guard;
 mod console;
 mod line_event;
 mod lines;
@@ -14,6 +15,7 @@ mod sink;
 mod skipped;
 
 pub use channels::{ConsoleBlocks, ConsoleMoments, ConsolePresses, ConsoleSources, SourcesEnd};
+pub use clock_guard::{ClockGuard, is_clock_step};
 pub use console::Console;
 pub use line_event::console_event;
 pub use lines::LineBuffer;

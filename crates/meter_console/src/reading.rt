@@ -1,4 +1,5 @@
 //! The thread that reads the console.
+use crate::clock_guard::ClockGuard;
 use crate::console::Console;
 use crate::running::ConsoleEnd;
 use std::alloc::Global;
@@ -6,6 +7,7 @@ use std::io::BufRead;
 use std::sync::Wait;
 use std::thread;
 use std::thread::{JoinHandle, Threads};
+use std::time::Clock;
 
 /// An observer that is called once the console has ended.
 pub trait ConsoleObserver {
@@ -16,13 +18,15 @@ pub trait ConsoleObserver {
 /// The input of the console's thread, the destinations of events and messages, and the observer of
 /// its end.
 #[derive(Drop)]
-pub struct Reading<R, B, E, N> {
+pub struct Reading<R, B, T, E, N> {
     /// The lines of the console.
     pub input: B,
     /// The channels that the events are passed to.
     pub console: Console<R>,
     /// The output on which lost lines and a failed read are reported.
     pub errors: E,
+    /// What holds back moments that are far ahead.
+    pub guard: ClockGuard<T, E>,
     /// Whether lines that are skipped are reported, too.
     pub is_verbose: bool,
     /// Called at the end of the input.
@@ -30,18 +34,22 @@ pub struct Reading<R, B, E, N> {
 }
 
 // Passes on the events of the input's lines, and then calls `ended`.
-fn read<R: Wait + Copy + Drop, B: BufRead + Drop, E: Eprint + Drop, N: ConsoleObserver + Drop>(
-    alloc: Global,
-    reading: Reading<R, B, E, N>,
-) -> ConsoleEnd {
+fn read<
+    R: Wait + Copy + Drop,
+    B: BufRead + Drop,
+    T: Clock + Drop,
+    E: Eprint + Drop,
+    N: ConsoleObserver + Drop,
+>(alloc: Global, reading: Reading<R, B, T, E, N>) -> ConsoleEnd {
     let Reading {
         mut input,
         console,
         errors,
+        guard,
         is_verbose,
         ended,
     } = reading;
-    let end = console.run(alloc, &mut input, &errors, is_verbose);
+    let end = console.run(alloc, &mut input, &errors, guard, is_verbose);
     ended.on_console_end(end);
     end
 }
@@ -51,9 +59,10 @@ fn read<R: Wait + Copy + Drop, B: BufRead + Drop, E: Eprint + Drop, N: ConsoleOb
 pub fn start<
     R: Threads + Wait + Copy + Drop + Send + 'static,
     B: BufRead + Drop + Send + 'static,
+    T: Clock + Drop + Send + 'static,
     E: Eprint + Drop + Send + 'static,
     N: ConsoleObserver + Drop + Send + 'static,
->(rt: &R, alloc: Global, reading: Reading<R, B, E, N>) -> Option<JoinHandle<ConsoleEnd>> {
+>(rt: &R, alloc: Global, reading: Reading<R, B, T, E, N>) -> Option<JoinHandle<ConsoleEnd>> {
     match thread::spawn(rt, move || read(alloc, reading)) {
         Ok(thread) => Some(thread),
         Err(_) => None,

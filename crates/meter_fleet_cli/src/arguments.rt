@@ -8,8 +8,8 @@ use std::alloc::{AllocError, Global};
 
 // The end of `--help`.
 const STATUSES: &str = "\
-A fault is the line `fault: WORD` on standard error. \
-With --verbose, a line before it says what was expected and what was found.
+A fault is the line `fault: WORD` on standard error; \
+a line before it says what was expected and what was found.
 Exit status: 2 the command line or the trace is wrong; 3 reading or listening failed; \
 4 out of memory.
 Example: meter_fleet serve --meters 1000 --password 12345678 --mode 1 --listen 0.0.0.0";
@@ -120,7 +120,7 @@ const VERBOSE: OptionText = OptionText {
     name: "verbose",
     value: OptionValue::Nothing,
     presence: Presence::Optional,
-    help: "Report the address, and faults in full, on standard error",
+    help: "Report the address on standard error",
 };
 
 // The options of `serve`, in the order of its help.

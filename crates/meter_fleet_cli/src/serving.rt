@@ -39,19 +39,16 @@ fn listen_fault(kind: ErrorKind) -> Fault {
     }
 }
 
-// Listens on the address of the command line. If `--verbose` is given, reports on standard error
-// the address, or why the fleet cannot listen on it.
+// Listens on the address of the command line. Reports on standard error why the fleet cannot listen
+// on it or, if `--verbose` is given, the address.
 fn listen<'a, N: Net>(
     rt: &'a HostRuntime,
     net: &N,
     matches: &ArgMatches<'_>,
     plan: FaultPlan,
 ) -> Result<FleetSockets<&'a HostRuntime>, Fault> {
-    let is_verbose = matches.get_flag("verbose");
     let Some(address) = address_of(matches) else {
-        if is_verbose {
-            let _ = eprintln!(rt; "listen: expected an IP address");
-        }
+        let _ = eprintln!(rt; "listen: expected an IP address");
         return Err(Fault::Input);
     };
     let limits = TimeLimits {
@@ -61,16 +58,14 @@ fn listen<'a, N: Net>(
     let console = FleetConsole::new(rt.alloc(), rt.stdin(), rt.stdout(), rt);
     match FleetSockets::bind(rt, net, rt.alloc(), address, limits, plan, console) {
         Ok(sockets) => {
-            if is_verbose {
+            if matches.get_flag("verbose") {
                 report_address(rt, &sockets);
             }
             Ok(sockets)
         }
         Err(error) => {
-            if is_verbose {
-                let why = why_not_listening(error.kind());
-                let _ = eprintln!(rt; "{address}: {why}");
-            }
+            let why = why_not_listening(error.kind());
+            let _ = eprintln!(rt; "{address}: {why}");
             Err(listen_fault(error.kind()))
         }
     }

@@ -17,10 +17,10 @@ use relay_recorder::MAX_CAPACITY;
 // The control mode in which a meter refuses every remote disconnection and reconnection.
 const REFUSING_MODE: u8 = 0;
 
-// Returns the password of the environment. Errors: `Input` if there is none, with a line on
-// standard error, or if it is not UTF-8, with a line if `is_verbose`; `Memory`.
-fn required_password(rt: &HostRuntime, is_verbose: bool) -> Result<String, Fault> {
-    if let Some(text) = environment_password(rt, is_verbose)? {
+// Returns the password of the environment. Errors: `Input` if there is none, or it is not UTF-8,
+// with a line on standard error; `Memory`.
+fn required_password(rt: &HostRuntime) -> Result<String, Fault> {
+    if let Some(text) = environment_password(rt)? {
         return Ok(text);
     }
     if let Some(line) = password_line(ErrorKind::MissingRequiredArgument) {
@@ -30,15 +30,13 @@ fn required_password(rt: &HostRuntime, is_verbose: bool) -> Result<String, Fault
 }
 
 // Returns the bytes of a password. Errors: `Input` if they are not 1 to 32, with a line on standard
-// error if `is_verbose`; `Memory`.
-fn check_password(rt: &HostRuntime, text: &str, is_verbose: bool) -> Result<Octets, Fault>
+// error; `Memory`.
+fn check_password(rt: &HostRuntime, text: &str) -> Result<Octets, Fault>
     ensures { IfOk result IsPassword }
 {
     let bytes = text.as_bytes();
     if bytes.is_empty() || bytes.len() > MAX_PASSWORD {
-        if is_verbose {
-            let _ = eprintln!(rt; "password: must be 1 to 32 bytes");
-        }
+        let _ = eprintln!(rt; "password: must be 1 to 32 bytes");
         return Err(Fault::Input);
     }
     match Octets::from_slice(rt.alloc(), bytes) {
@@ -52,15 +50,14 @@ fn check_password(rt: &HostRuntime, text: &str, is_verbose: bool) -> Result<Octe
 fn find_password(rt: &HostRuntime, matches: &ArgMatches<'_>) -> Result<Octets, Fault>
     ensures { IfOk result IsPassword }
 {
-    let is_verbose = matches.get_flag("verbose");
     if let Some(text) = matches.get_str("password") {
-        return check_password(rt, text, is_verbose);
+        return check_password(rt, text);
     }
     let text = match matches.get_str("password-file") {
         Some(path) => read_password_file(rt, path)?,
-        None => required_password(rt, is_verbose)?,
+        None => required_password(rt)?,
     };
-    check_password(rt, text.as_str(), is_verbose)
+    check_password(rt, text.as_str())
 }
 
 // Returns the trace that all meters continue from, but for those that refuse: that of the file of

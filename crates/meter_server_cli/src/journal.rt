@@ -17,6 +17,7 @@ use program::Fault;
 use relay_recorder::Recorder;
 use server_files::EventFile;
 use server_io::Closing;
+use session_log::Log;
 use std::io::Write;
 use std::sync::Wait;
 use std::thread::Threads;
@@ -24,6 +25,7 @@ use std::thread::Threads;
 // What ends a server whose journal has failed: its listening, and the sources of its own events.
 #[derive(Drop)]
 pub(crate) struct ServerEnd<R> {
+    pub(crate) log: Log,
     pub(crate) closing: Closing<HostRuntime>,
     pub(crate) sources: SourcesEnd<R>,
 }
@@ -57,7 +59,6 @@ impl<R, F: DurableFile> JournaledParts<R, F> {
 // reported its own fault.
 #[derive(Drop)]
 struct JournalEnd<R> {
-    rt: HostRuntime,
     path: String,
     has_journal: bool,
     server: ServerEnd<R>,
@@ -67,7 +68,7 @@ impl<R: Wait + Copy + Drop + Send> FailureAction for JournalEnd<R> {
     fn act(self, fault: JournalFault) {
         let _ = match fault {
             JournalFault::File(_) if !self.has_journal => Ok(()),
-            _ => eprintln!(self.rt; "{}: the journal failed: {fault}", self.path),
+            _ => eprintln!(self.server.log; "{}: the journal failed: {fault}", self.path),
         };
         self.server.closing.close();
         self.server.sources.end();
@@ -111,7 +112,6 @@ pub(crate) fn run_journaled<
     } = parts;
     let EventFile { path, file, lock } = journal;
     let on_failure = JournalEnd {
-        rt: *rt,
         path,
         has_journal: lock.is_some(),
         server: end,

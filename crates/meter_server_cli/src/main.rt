@@ -14,28 +14,32 @@ mod messages;
 mod serving;
 mod starting;
 
-use crate::starting::Server;
 use counted_io::Counted;
 use program::{Fault, exit_code};
-use server_commands::{HexOptions, Work, answer_text, parse_command_line, play_text, report_fault};
+use server_commands::{
+    HexOptions, ServeOptions, Work, answer_text, parse_command_line, play_text, report_fault,
+};
+use session_log::start_log;
 use std::process::ExitCode;
+use std::sync::Wait;
+use std::thread::Threads;
 
 // The next step after the command line is read.
 #[derive(Drop)]
 enum ServerCommand {
     // Nothing more to do; exit with this status.
     Ended(u8),
-    // Serve clients.
-    Serve(Server),
+    // Serve clients with these options.
+    Serve(ServeOptions),
 }
 
 // Runs `apdu`: responds to the requests of standard input on standard output.
-fn run_apdu(rt: &HostRuntime, is_verbose: bool) -> Result<(), Fault> {
+fn run_apdu(rt: &HostRuntime) -> Result<(), Fault> {
     let mut input = Counted::new(rt.stdin());
     let mut output = Counted::new(rt.stdout());
     match answer_text(rt.alloc(), &mut input, &mut output) {
         Ok(()) => Ok(()),
-        Err(fault) => Err(report_fault(rt, is_verbose, fault)),
+        Err(fault) => Err(report_fault(rt, fault)),
     }
 }
 
@@ -47,33 +51,49 @@ fn run_hex(rt: &HostRuntime, options: &HexOptions) -> Result<(), Fault> {
     let device = options.device.as_str();
     match play_text(rt.alloc(), &mut input, &mut output, password, device) {
         Ok(()) => Ok(()),
-        Err(fault) => Err(report_fault(rt, options.is_verbose, fault)),
+        Err(fault) => Err(report_fault(rt, fault)),
     }
 }
 
-// Reads the command line and performs its work, up to the first client of a server.
+// Reads the command line and performs its work, unless that is to serve clients.
 fn begin(rt: &HostRuntime) -> Result<ServerCommand, Fault> {
     match parse_command_line(rt)? {
         Work::Exit(status) => Ok(ServerCommand::Ended(status)),
-        Work::Apdu(is_verbose) => {
-            run_apdu(rt, is_verbose)?;
+        Work::Apdu => {
+            run_apdu(rt)?;
             Ok(ServerCommand::Ended(0))
         }
         Work::Hex(options) => {
             run_hex(rt, &options)?;
             Ok(ServerCommand::Ended(0))
         }
-        Work::Serve(options) => Ok(ServerCommand::Serve(starting::begin(rt, &options)?)),
+        Work::Serve(options) => Ok(ServerCommand::Serve(options)),
     }
+}
+
+// Serves clients, with a log that never makes the meter wait. Returns the exit status; a fault is
+// the last line of the log.
+fn serve<R: Threads + Wait + Copy + Drop + Send + 'static>(
+    rt: &HostRuntime,
+    threads: &R,
+    options: &ServeOptions,
+) -> ExitCode {
+    let Ok(log) = start_log(rt, threads, rt.alloc(), rt.stderr()) else {
+        return exit_code(rt, Err(Fault::Memory));
+    };
+    let done = match starting::begin(rt, &log, options) {
+        Ok(server) => serving::run(rt, threads, &log, &mut rt.stdout(), server),
+        Err(fault) => Err(fault),
+    };
+    let code = exit_code(&log, done.map(|()| 0));
+    log.end();
+    code
 }
 
 fn main(rt: HostRuntime) -> ExitCode {
     match begin(&rt) {
         Ok(ServerCommand::Ended(status)) => ExitCode::from(status),
-        Ok(ServerCommand::Serve(server)) => exit_code(
-            &rt,
-            serving::run(&rt, &rt, &mut rt.stdout(), server).map(|()| 0),
-        ),
+        Ok(ServerCommand::Serve(options)) => serve(&rt, &rt, &options),
         Err(fault) => exit_code(&rt, Err(fault)),
     }
 }

@@ -13,7 +13,8 @@ use cosem_axdr::Octets;
 use counted_io::Monitored;
 use durable_lines::DurableFile;
 use meter_console::{
-    Console, ConsoleBlocks, ConsoleEnd, ConsoleMoments, ConsolePresses, ConsoleSources, Reading,
+    ClockGuard, Console, ConsoleBlocks, ConsoleEnd, ConsoleMoments, ConsolePresses, ConsoleSources,
+    Reading,
 };
 use meter_run::{MeterRun, Sources, run_meter};
 use meter_server::{ServeFault, Served};
@@ -22,6 +23,7 @@ use relay_recorder::Recorder;
 use server_commands::{Bounds, ServePlan};
 use server_files::{EventOutput, RelayAlone, RelayedJournal};
 use server_io::{Closing, Sockets, Stopped, StreamLimits};
+use session_log::Log;
 use std::alloc::{AllocError, Global};
 use std::fs::{File, Files};
 use std::io::{BufReader, Stdin, Write};
@@ -44,6 +46,7 @@ pub(crate) struct ClientParameters {
 // Returns the source of clients, and two handles of the flag that ends the listening.
 fn make_sockets(
     rt: &HostRuntime,
+    log: &Log,
     bounds: Bounds,
     listener: TcpListener,
 ) -> Result<(Sockets<HostRuntime>, Stopped, Stopped), AllocError> {
@@ -51,7 +54,15 @@ fn make_sockets(
     let second = Arc::try_clone(&stopped)?;
     let theirs = Arc::try_clone(&stopped)?;
     let limits = StreamLimits::from_seconds(bounds.inactivity, bounds.session);
-    let sockets = Sockets::new(*rt, rt.alloc(), listener, limits, theirs, bounds.is_verbose);
+    let sockets = Sockets::new(
+        *rt,
+        log.share()?,
+        rt.alloc(),
+        listener,
+        limits,
+        theirs,
+        bounds.is_verbose,
+    )?;
     Ok((sockets, stopped, second))
 }
 
@@ -103,12 +114,37 @@ fn run_and_print<R: Threads + Wait + Copy + Drop + Send + 'static, W: Write>(
     (served, print_trace(output, trace))
 }
 
+// The input of the console's thread.
+type ConsoleReading<R> = Reading<
+    R,
+    BufReader<Monitored<Stdin>>,
+    HostRuntime,
+    Log,
+    Closing<HostRuntime>,
+>;
+
+// What holds back moments that are far ahead of the meter's last one.
+fn guard_of(
+    rt: &HostRuntime,
+    log: &Log,
+    bounds: Bounds,
+    last: Option<u32>,
+) -> Result<ClockGuard<HostRuntime, Log>, AllocError> {
+    Ok(ClockGuard {
+        clock: *rt,
+        errors: log.share()?,
+        last,
+        accepts_steps: bounds.accepts_clock_steps,
+        held_back: 0,
+    })
+}
+
 // The parts of a server before its console's thread is started.
 #[derive(Drop)]
 struct Prepared<R> {
     listening: Listening<R>,
     sources: ConsoleSources<R>,
-    reading: Reading<R, BufReader<Monitored<Stdin>>, HostRuntime, Closing<HostRuntime>>,
+    reading: ConsoleReading<R>,
     end: ServerEnd<R>,
 }
 
@@ -125,23 +161,32 @@ fn closing_of(
     }
 }
 
+// The input of a console, and the last moment of its meter.
+#[derive(Drop)]
+struct MeterConsole {
+    lines: BufReader<Monitored<Stdin>>,
+    last: Option<u32>,
+}
+
 // Prepares the sockets, the sources of the meter's own events, the input of the console's thread,
 // and what ends them.
 fn prepare<R: Wait + Copy + Drop>(
     rt: &HostRuntime,
     threads: &R,
+    log: &Log,
     bounds: Bounds,
-    input: BufReader<Monitored<Stdin>>,
-    listener: TcpListener,
-    address: SocketAddr,
+    input: MeterConsole,
+    listening: (TcpListener, SocketAddr),
 ) -> Result<Prepared<R>, AllocError> {
-    let (sockets, stopped, second) = make_sockets(rt, bounds, listener)?;
+    let (listener, address) = listening;
+    let (sockets, stopped, second) = make_sockets(rt, log, bounds, listener)?;
     let (console, sources) = Console::new(threads, rt.alloc())?;
     let listening = Listening {
         sockets,
         sources: console.sources_end()?,
     };
     let end = ServerEnd {
+        log: log.share()?,
         closing: closing_of(rt, second, Some(address)),
         sources: console.sources_end()?,
     };
@@ -151,9 +196,10 @@ fn prepare<R: Wait + Copy + Drop>(
         None
     };
     let reading = Reading {
-        input,
+        input: input.lines,
         console,
-        errors: *rt,
+        errors: log.share()?,
+        guard: guard_of(rt, log, bounds, input.last)?,
         is_verbose: bounds.is_verbose,
         ended: closing_of(rt, stopped, address),
     };
@@ -168,6 +214,7 @@ fn prepare<R: Wait + Copy + Drop>(
 // A server whose console's thread is running.
 #[derive(Drop)]
 struct Running<R> {
+    log: Log,
     listening: Listening<R>,
     sources: ConsoleSources<R>,
     console: JoinHandle<ConsoleEnd>,
@@ -179,12 +226,15 @@ struct Running<R> {
 fn start_server<R: Threads + Wait + Copy + Drop + Send + 'static>(
     rt: &HostRuntime,
     threads: &R,
+    log: &Log,
     bounds: Bounds,
-    input: BufReader<Monitored<Stdin>>,
-    listener: TcpListener,
-    address: SocketAddr,
+    input: MeterConsole,
+    listening: (TcpListener, SocketAddr),
 ) -> Result<Running<R>, Fault> {
-    let Ok(prepared) = prepare(rt, threads, bounds, input, listener, address) else {
+    let Ok(prepared) = prepare(rt, threads, log, bounds, input, listening) else {
+        return Err(Fault::Memory);
+    };
+    let Ok(log) = log.share() else {
         return Err(Fault::Memory);
     };
     let Prepared {
@@ -195,6 +245,7 @@ fn start_server<R: Threads + Wait + Copy + Drop + Send + 'static>(
     } = prepared;
     match meter_console::start(threads, rt.alloc(), reading) {
         Some(console) => Ok(Running {
+            log,
             listening,
             sources,
             console,
@@ -208,7 +259,7 @@ fn start_server<R: Threads + Wait + Copy + Drop + Send + 'static>(
 // how files are stored.
 fn run_on_journal<
     F: DurableFile + Send + 'static,
-    S: Clock + Eprint + Files<File = File> + Drop + Send + 'static,
+    S: Clock + Files<File = File> + Copy + Drop + Send + 'static,
     R: Threads + Wait + Copy + Drop + Send + 'static,
     W: Write,
 >(
@@ -237,7 +288,7 @@ where
 // Runs the meter with its relay alone as `run_journaled` does.
 fn run_on_relay<
     F: DurableFile + Send + 'static,
-    S: Clock + Eprint + Files<File = File> + Drop + Send + 'static,
+    S: Clock + Files<File = File> + Copy + Drop + Send + 'static,
     R: Threads + Wait + Copy + Drop + Send + 'static,
     W: Write,
 >(
@@ -266,7 +317,7 @@ where
 // results of serving, of the journal or the relay, and of printing. It is generic over what stores
 // files: over a certain one its proof takes minutes.
 fn serve_and_print<
-    S: Clock + Eprint + Files<File = File> + Drop + Send + 'static,
+    S: Clock + Files<File = File> + Copy + Drop + Send + 'static,
     R: Threads + Wait + Copy + Drop + Send + 'static,
     W: Write,
 >(
@@ -332,6 +383,7 @@ fn serve_running<R: Threads + Wait + Copy + Drop + Send + 'static, W: Write>(
         (W.contents output.old) (W.contents output.new)) }
 {
     let Running {
+        log,
         listening,
         sources,
         console,
@@ -341,6 +393,9 @@ fn serve_running<R: Threads + Wait + Copy + Drop + Send + 'static, W: Write>(
     let (served, kept, printed) = serve_and_print(
         rt, threads, output, server, recorder, events, meter,
     );
+    if matches!(printed, Err(Fault::Write)) {
+        let _ = eprintln!(log; "standard output: a write failed");
+    }
     // (if there was no fault, the sources have ended, and so has the console)
     let console = if served.is_ok() && kept.is_ok() {
         Some(console.join(threads))
@@ -361,6 +416,7 @@ fn serve_running<R: Threads + Wait + Copy + Drop + Send + 'static, W: Write>(
 pub(crate) fn run<R: Threads + Wait + Copy + Drop + Send + 'static, W: Write>(
     rt: &HostRuntime,
     threads: &R,
+    log: &Log,
     output: &mut W,
     server: Server,
 ) -> Result<(), Fault>
@@ -379,7 +435,11 @@ pub(crate) fn run<R: Threads + Wait + Copy + Drop + Send + 'static, W: Write>(
         recorder,
         input,
     } = plan;
-    match start_server(rt, threads, bounds, input, listener, address) {
+    let input = MeterConsole {
+        lines: input,
+        last: recorder.core().last_moment(),
+    };
+    match start_server(rt, threads, log, bounds, input, (listener, address)) {
         Ok(running) => {
             let meter = ClientParameters {
                 password,

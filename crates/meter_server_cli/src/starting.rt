@@ -1,13 +1,15 @@
 //! How the command `serve` begins: from its options to a server that listens, with its journal and
 //! its relay.
 use crate::messages::why_not_listening;
+use durable_lines::{GROUP_READABLE, OWNER_ONLY};
 use program::Fault;
 use relay_recorder::Recorder;
 use server_commands::{Bounds, ServeOptions, ServePlan, has_name, make_plan};
 use server_files::{
     EventOutput, JournalOptions, OpenJournal, RelayOptions, open_journal, open_outputs,
 };
-use session_log::LogTime;
+use session_log::{Log, LogTime};
+use std::fs;
 use std::io::{IsTerminal, Stdin};
 use std::net::{SocketAddr, TcpListener};
 
@@ -21,43 +23,52 @@ pub(crate) struct Server {
     pub(crate) address: SocketAddr,
 }
 
-// Listens on the address of the command line, and returns the listener and its address. If
-// `is_verbose`, prints the address, or why listening failed, on standard error.
+// Listens on the address of the command line, and returns the listener and its address. The log
+// has a line if listening failed and, if `is_verbose`, one with the address.
 fn listen_on(
     rt: &HostRuntime,
+    log: &Log,
     address: &str,
     is_verbose: bool,
 ) -> Result<(TcpListener, SocketAddr), Fault> {
     let listener = match TcpListener::bind(rt, address) {
         Ok(listener) => listener,
         Err(error) => {
-            if is_verbose {
-                let now = LogTime::now(rt);
-                let why = why_not_listening(address, error.kind());
-                let _ = eprintln!(rt; "{now} {address}: {why}");
-            }
+            let now = LogTime::now(rt);
+            let why = why_not_listening(address, error.kind());
+            let _ = eprintln!(log; "{now} {address}: {why}");
             return Err(Fault::Listen);
         }
     };
     let address = listener.local_addr().map_err(|_| Fault::Listen)?;
     if is_verbose {
         let now = LogTime::now(rt);
-        let _ = eprintln!(rt; "{now} listening on {address}");
+        let _ = eprintln!(log; "{now} listening on {address}");
     }
     Ok((listener, address))
 }
 
-// Validates the options, and reads the trace to resume from. If `--verbose` is given, a line on
-// standard error says what is wrong.
-fn plan_server(rt: &HostRuntime, options: &ServeOptions) -> Result<ServePlan<Stdin>, Fault> {
+// Validates the options, and reads the trace to resume from. A line of the log says what is wrong.
+fn plan_server(
+    rt: &HostRuntime,
+    log: &Log,
+    options: &ServeOptions,
+) -> Result<ServePlan<Stdin>, Fault> {
     match make_plan(rt.alloc(), rt.stdin(), options) {
         Ok(plan) => Ok(plan),
         Err(fault) => {
-            if options.bounds.is_verbose {
-                let _ = eprintln!(rt; "{fault}");
-            }
+            let _ = eprintln!(log; "{fault}");
             Err(fault.fault())
         }
+    }
+}
+
+// Returns the permissions of the files that a server of these bounds makes.
+fn mode_of(bounds: &Bounds) -> u32 {
+    if bounds.is_group_readable {
+        GROUP_READABLE
+    } else {
+        OWNER_ONLY
     }
 }
 
@@ -67,19 +78,28 @@ fn journal_options(bounds: &Bounds) -> JournalOptions {
         depth: bounds.depth,
         limit: bounds.journal_limit,
         kept: bounds.kept_journals,
+        mode: mode_of(bounds),
     }
 }
 
-// Reports on standard error that the name of the options is not that of the meter, which resumes
-// from a trace.
-fn report_other_name(rt: &HostRuntime, options: &ServeOptions, recorder: &Recorder) {
+// Reports that the name of the options is not that of the meter, which resumes from a trace.
+fn report_other_name(rt: &HostRuntime, log: &Log, options: &ServeOptions, recorder: &Recorder) {
     if !options.bounds.resumes || !options.has_device {
         return;
     }
     let name = options.device.as_str();
     if matches!(has_name(rt.alloc(), recorder, name), Ok(false)) {
-        let _ = eprintln!(rt;
+        let _ = eprintln!(log;
             "warning: --device {name} is not used: --resume takes the name of the trace's meter"
+        );
+    }
+}
+
+// Reports that the meter resumes from its journal, and not from the trace of standard input.
+fn report_other_trace(rt: &HostRuntime, log: &Log, options: &ServeOptions, path: &str) {
+    if options.bounds.resumes && matches!(fs::exists(rt, path), Ok(true)) {
+        let _ = eprintln!(log;
+            "warning: the trace of --resume is not used: the meter resumes from the journal {path}"
         );
     }
 }
@@ -88,19 +108,21 @@ fn report_other_name(rt: &HostRuntime, options: &ServeOptions, recorder: &Record
 // ends.
 fn with_journal(
     rt: &HostRuntime,
+    log: &Log,
     options: &ServeOptions,
     plan: ServePlan<Stdin>,
 ) -> Result<(ServePlan<Stdin>, Option<OpenJournal<HostRuntime>>), Fault> {
     let Some(path) = &options.journal else {
         return Ok((plan, None));
     };
+    report_other_trace(rt, log, options, path.as_str());
     let ServePlan {
         bounds,
         password,
         recorder,
         input,
     } = plan;
-    match open_journal(rt, path.as_str(), recorder, journal_options(&bounds)) {
+    match open_journal(rt, log, path.as_str(), recorder, journal_options(&bounds)) {
         Ok((journal, recorder)) => Ok((
             ServePlan {
                 bounds,
@@ -117,6 +139,7 @@ fn with_journal(
 // Returns the server of a plan that listens, once its relay is given the supply output.
 fn ready(
     rt: &HostRuntime,
+    log: &Log,
     options: &ServeOptions,
     plan: ServePlan<Stdin>,
     journal: Option<OpenJournal<HostRuntime>>,
@@ -125,9 +148,10 @@ fn ready(
     let (listener, address) = listening;
     let relay = RelayOptions {
         path: options.relay.as_deref(),
+        mode: mode_of(&options.bounds),
         is_verbose: options.bounds.is_verbose,
     };
-    match open_outputs(rt, relay, plan.recorder.core(), journal) {
+    match open_outputs(rt, log, relay, plan.recorder.core(), journal) {
         Ok(events) => Ok(Server {
             plan,
             events,
@@ -143,26 +167,26 @@ fn ready(
 
 // Says that a server without a journal loses its trace if it is killed, if somebody reads it:
 // standard error is a terminal, or `--verbose` is given.
-fn report_no_journal(rt: &HostRuntime, options: &ServeOptions) {
+fn report_no_journal(rt: &HostRuntime, log: &Log, options: &ServeOptions) {
     if options.journal.is_some() || !(options.bounds.is_verbose || rt.stderr().is_terminal()) {
         return;
     }
     let now = LogTime::now(rt);
-    let _ = eprintln!(rt;
+    let _ = eprintln!(log;
         "{now} no journal: if the server is killed, its trace and the meter's state are lost"
     );
 }
 
 // Prepares a server up to the first client: validates the options, reads the trace to resume from,
 // opens the journal, listens, and opens the relay.
-pub(crate) fn begin(rt: &HostRuntime, options: &ServeOptions) -> Result<Server, Fault> {
-    let plan = plan_server(rt, options)?;
-    report_other_name(rt, options, &plan.recorder);
-    let (plan, journal) = with_journal(rt, options, plan)?;
-    match listen_on(rt, options.address.as_str(), options.bounds.is_verbose) {
+pub(crate) fn begin(rt: &HostRuntime, log: &Log, options: &ServeOptions) -> Result<Server, Fault> {
+    let plan = plan_server(rt, log, options)?;
+    report_other_name(rt, log, options, &plan.recorder);
+    let (plan, journal) = with_journal(rt, log, options, plan)?;
+    match listen_on(rt, log, options.address.as_str(), options.bounds.is_verbose) {
         Ok(listening) => {
-            report_no_journal(rt, options);
-            ready(rt, options, plan, journal, listening)
+            report_no_journal(rt, log, options);
+            ready(rt, log, options, plan, journal, listening)
         }
         Err(fault) => {
             drop(plan);

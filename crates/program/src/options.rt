@@ -78,12 +78,12 @@ pub const PASSWORD_FILE: OptionText = OptionText {
     help: "File whose one line is the password; only its owner may have access to it",
 };
 
-/// `--verbose` of a command that describes its fault.
+/// `--verbose` of a command that has nothing more to report: it describes each fault in any case.
 pub const VERBOSE: OptionText = OptionText {
     name: "verbose",
     value: OptionValue::Nothing,
     presence: Presence::Optional,
-    help: "On a fault, report what was expected and what was found on standard error",
+    help: "No effect: faults are always described",
 };
 
 /// The formats of records that `--format` names.

@@ -85,16 +85,13 @@ fn variable_password(variable: Result<String, VarError>) -> Result<Option<String
 }
 
 /// Returns the password of the environment, or `None` if it has no variable `METER_PASSWORD`.
-/// Errors: `Input` if it is not UTF-8, with a line on standard error if `is_verbose`; `Memory`.
-pub fn environment_password<R: Env + AllocGlobal + Eprint>(
-    rt: &R,
-    is_verbose: bool,
-) -> Result<Option<String>, Fault>
+/// Errors: `Input` if it is not UTF-8, with a line on standard error; `Memory`.
+pub fn environment_password<R: Env + AllocGlobal + Eprint>(rt: &R) -> Result<Option<String>, Fault>
     ensures variable { IsOfVariable result }
     ensures err { IfErr result (λ fault. is_of_files fault ≡ true) }
 {
     let password = variable_password(env::var(rt, PASSWORD_VARIABLE));
-    if is_verbose && matches!(password, Err(Fault::Input)) {
+    if matches!(password, Err(Fault::Input)) {
         let _ = eprintln!(rt; "METER_PASSWORD: expected UTF-8 text");
     }
     password

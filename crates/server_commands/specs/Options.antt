@@ -43,4 +43,6 @@ pub record IsBounds (found : Found) (bounds : Bounds) : Type 0 where
   pub session : IsNumber 32 found (codes "session") bounds.session
   pub stops_with_input : IsFlag found (codes "stop-with-input") bounds.stops_with_input
   pub resumes : IsFlag found (codes "resume") bounds.resumes
+  pub accepts_clock_steps : IsFlag found (codes "accept-clock-step") bounds.accepts_clock_steps
+  pub is_group_readable : IsFlag found (codes "group-readable") bounds.is_group_readable
   pub is_verbose : IsFlag found (codes "verbose") bounds.is_verbose

@@ -14,8 +14,8 @@ use std::alloc::{AllocError, Global};
 const LIMITS_AND_STATUSES: &str = "\
 Limits: apdu and hex read at most 1,048,576 bytes; \
 serve has at most eight sessions at a time and closes a ninth connection.
-A fault is the line `fault: WORD` on standard error. \
-With --verbose, a line before it says what was expected and what was found.
+A fault is the line `fault: WORD` on standard error; \
+a line before it says what was expected and what was found.
 Exit status: 0 success; 2 the command line or the input is wrong; \
 3 reading, writing or listening failed; 4 out of memory, or the lock has no turn left.
 Example: echo C001C10046000060030AFF0300 | meter_server apdu";
@@ -124,12 +124,28 @@ const RESUME: OptionText = OptionText {
     help: "Resume from the trace at the head of standard input",
 };
 
+// `--accept-clock-step`.
+const ACCEPT_CLOCK_STEP: OptionText = OptionText {
+    name: "accept-clock-step",
+    value: OptionValue::Nothing,
+    presence: Presence::Optional,
+    help: "Let moments pass that are more than a day ahead of the last one or of this machine",
+};
+
+// `--group-readable`.
+const GROUP_READABLE: OptionText = OptionText {
+    name: "group-readable",
+    value: OptionValue::Nothing,
+    presence: Presence::Optional,
+    help: "Let the group read the journal and the relay's file that are made (mode 0640)",
+};
+
 // `--verbose` of `serve`.
 const VERBOSE_SESSIONS: OptionText = OptionText {
     name: "verbose",
     value: OptionValue::Nothing,
     presence: Presence::Optional,
-    help: "Report faults, connections and how sessions end on standard error",
+    help: "Report connections and how sessions end on standard error",
 };
 
 // The options of `apdu`.
@@ -139,7 +155,7 @@ static APDU: [OptionText; 1] = [VERBOSE];
 static HEX: [OptionText; 4] = [PASSWORD, PASSWORD_FILE, DEVICE, VERBOSE];
 
 // The options of `serve`, in the order of its help.
-static SERVE: [OptionText; 15] = [
+static SERVE: [OptionText; 17] = [
     PASSWORD,
     PASSWORD_FILE,
     DEVICE,
@@ -154,6 +170,8 @@ static SERVE: [OptionText; 15] = [
     SESSION,
     STOP_WITH_INPUT,
     RESUME,
+    ACCEPT_CLOCK_STEP,
+    GROUP_READABLE,
     VERBOSE_SESSIONS,
 ];
 

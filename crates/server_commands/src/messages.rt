@@ -25,7 +25,7 @@ pub enum RequestFault {
 
 /// An error of the commands `apdu` and `hex`.
 ///
-/// Lines, bytes and characters are counted from 1. The message is the line that `--verbose` writes.
+/// Lines, bytes and characters are counted from 1. The message is a line on standard error.
 #[derive(Clone, Copy, Debug, PartialEq, Eq, Error)]
 pub enum CommandFault {
     /// There are more than 1,048,576 bytes.
@@ -87,13 +87,10 @@ impl CommandFault {
     }
 }
 
-/// Returns the fault of the program. If `is_verbose`, writes a line on standard error that says
-/// what is wrong.
-pub fn report_fault<R: Eprint>(rt: &R, is_verbose: bool, fault: CommandFault) -> Fault
+/// Returns the fault of the program, after a line on standard error that says what is wrong.
+pub fn report_fault<R: Eprint>(rt: &R, fault: CommandFault) -> Fault
     ensures { result ≡ fault_of fault }
 {
-    if is_verbose {
-        let _ = eprintln!(rt; "{fault}");
-    }
+    let _ = eprintln!(rt; "{fault}");
     fault.fault()
 }

@@ -22,8 +22,6 @@ pub struct HexOptions {
     pub password: String,
     /// The name of the meter, of any length.
     pub device: String,
-    /// Whether faults are described on standard error.
-    pub is_verbose: bool,
 }
 
 /// The limits and flags of `serve`.
@@ -45,7 +43,11 @@ pub struct Bounds {
     pub stops_with_input: bool,
     /// Whether the meter resumes from the trace at the head of standard input.
     pub resumes: bool,
-    /// Whether faults, connections and ends of sessions are reported on standard error.
+    /// Whether moments that are far ahead pass.
+    pub accepts_clock_steps: bool,
+    /// Whether the group may read the files that are made.
+    pub is_group_readable: bool,
+    /// Whether connections and ends of sessions are reported on standard error.
     pub is_verbose: bool,
 }
 
@@ -115,23 +117,17 @@ pub(crate) fn hex_options<R: Env + AllocGlobal + Eprint + Files<File = File>>(
         → HasNoLineEnd (string_bytes options.password)) }
     ensures device { IfOk result
         (λ options. IsText (found_of matches.now) (codes "device") (string_bytes options.device)) }
-    ensures is_verbose { IfOk result
-        (λ options. IsFlag (found_of matches.now) (codes "verbose") options.is_verbose) }
     ensures err { IfErr result (λ fault. is_of_asking fault ≡ true) }
 {
     let password = find_password(rt, matches)?;
     let device = text_of(rt.alloc(), matches, "device")?;
-    Ok(HexOptions {
-        password,
-        device,
-        is_verbose: is_given(matches, "verbose"),
-    })
+    Ok(HexOptions { password, device })
 }
 
 // Returns the password of the command line, else that of the file that it names, else that of the
-// environment. Errors: those of a file without a password, with a line on standard error; `Memory`;
-// `Input` if there is no password, or that of the environment is not UTF-8, with a line if the
-// command line has `--verbose`.
+// environment. Errors: those of a file without a password, and `Input` if the password of the
+// environment is not UTF-8, with a line on standard error; `Memory`; `Input` if there is no
+// password.
 #[tactic(auto, using(crate::proofs::Faults::files_told))]
 fn find_password<R: Env + AllocGlobal + Eprint + Files<File = File>>(
     rt: &R,
@@ -152,7 +148,7 @@ fn find_password<R: Env + AllocGlobal + Eprint + Files<File = File>>(
     if let Some(path) = matches.get_str("password-file") {
         return read_password_file(rt, path);
     }
-    environment_password(rt, is_given(matches, "verbose"))?.ok_or(Fault::Input)
+    environment_password(rt)?.ok_or(Fault::Input)
 }
 
 // Returns the number of events that the trace keeps.
@@ -217,6 +213,8 @@ fn bounds_of(matches: &ArgMatches<'_>) -> Bounds
         session: seconds_of(matches, "session"),
         stops_with_input: is_given(matches, "stop-with-input"),
         resumes: is_given(matches, "resume"),
+        accepts_clock_steps: is_given(matches, "accept-clock-step"),
+        is_group_readable: is_given(matches, "group-readable"),
         is_verbose: is_given(matches, "verbose"),
     }
 }

@@ -5,7 +5,7 @@ ghost use Rattle.server_commands.specs.Faults.{plan_fault_of};
 use program::Fault;
 use thiserror::Error;
 
-/// Why the meter of `serve` cannot start. The message is the line that `--verbose` writes.
+/// Why the meter of `serve` cannot start. The message is a line on standard error.
 #[derive(Clone, Copy, Debug, PartialEq, Eq, Error)]
 pub enum PlanFault {
     /// The password does not have 1 to 32 bytes.
@@ -19,7 +19,7 @@ pub enum PlanFault {
     Depth,
     /// Standard input does not begin with a trace. The line with this number, counted from 1, is
     /// the first that is missing or wrong.
-    #[error("standard input: line {0}: not a line of a trace (trace_player --verbose says why)")]
+    #[error("standard input: line {0}: not a line of a trace (trace_player says why)")]
     Line(u64),
     /// Standard input begins with a journal, which does not state the number of its events.
     #[error("standard input: expected a trace, found a journal, which --journal FILE resumes")]

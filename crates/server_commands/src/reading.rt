@@ -20,8 +20,8 @@ pub enum Work {
     /// No work: help, the version or the reason why the command line is wrong was printed. Holds
     /// the exit status, 0 or 2.
     Exit(u8),
-    /// `apdu`. Holds whether faults are described on standard error.
-    Apdu(bool),
+    /// `apdu`.
+    Apdu,
     /// `hex`.
     Hex(HexOptions),
     /// `serve`.
@@ -38,7 +38,7 @@ fn parse_command<R: Env + AllocGlobal + Eprint + Files<File = File>>(
 {
     match matches.subcommand() {
         Some(("serve", matches)) => Ok(Work::Serve(serve_options(rt, matches)?)),
-        Some(("apdu", matches)) => Ok(Work::Apdu(matches.get_flag("verbose"))),
+        Some(("apdu", _)) => Ok(Work::Apdu),
         Some(("hex", matches)) => Ok(Work::Hex(hex_options(rt, matches)?)),
         _ => Err(Fault::Input),
     }

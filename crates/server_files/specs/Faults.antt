@@ -23,6 +23,7 @@ fault_of_start (start.Line number) = Input
 fault_of_start start.TooLong = Input
 fault_of_start start.Counted = Input
 fault_of_start start.OtherMeter = Input
+fault_of_start (start.Damaged at) = Input
 fault_of_start start.File = Write
 fault_of_start start.Memory = Memory
 

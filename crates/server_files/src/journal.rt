@@ -9,9 +9,10 @@ ghost use Rattle.relay_recorder.specs.Recording.{IsCapacity};
 ghost use Rattle.server_files.specs.Faults.{fault_of_start, is_of_opening};
 ghost use Rattle.server_files.specs.Journals.{depth_for, terms_for};
 
+use crate::cutting::{end_of, keep_cut};
 use crate::lock::lock_journal;
 use crate::paths::{folder_of, place_paths, with_suffix};
-use durable_lines::{LockFile, Place, StoredFile, StoredPlace};
+use durable_lines::{FileAccess, LockFile, Place, StoredFile, StoredPlace, open_own};
 use journal_files::{
     RenewalTerms, RenewedFile, Resumed, StartFault, begin_journal, renew_long_journal,
     resume_journal,
@@ -19,6 +20,7 @@ use journal_files::{
 use program::Fault;
 use relay_recorder::{MAX_CAPACITY, Recorder};
 use std::alloc::{AllocGlobal, Global};
+use std::fs;
 use std::fs::{File, Files};
 use std::io::ErrorKind;
 use trace_player::MAX_BYTES;
@@ -33,6 +35,8 @@ pub struct JournalOptions {
     pub limit: u32,
     /// The number of files before a renewal that are kept.
     pub kept: u16,
+    /// The permissions of the files that are made.
+    pub mode: u32,
 }
 
 /// An open journal: its path, its file, and the lock that keeps other servers from it.
@@ -66,16 +70,16 @@ fn renewal_terms(options: JournalOptions) -> RenewalTerms
     }
 }
 
-// Returns the place of a journal, which keeps this number of files that were replaced.
+// Returns the place of a journal that is kept in this way.
 fn place_of<R: AllocGlobal + Files<File = File> + Copy + Drop>(
     rt: &R,
     path: &str,
-    kept: u16,
+    options: JournalOptions,
 ) -> Result<StoredPlace<R>, StartFault> {
     let Ok(folder) = File::open(rt, folder_of(path)) else {
         return Err(StartFault::File);
     };
-    let paths = place_paths(rt.alloc(), path, kept)?;
+    let paths = place_paths(rt.alloc(), path, options.kept, options.mode)?;
     Ok(StoredPlace::new(*rt, folder, paths, MAX_BYTES))
 }
 
@@ -121,9 +125,10 @@ fn renew_resumed<P: Place>(
 }
 
 // Resumes the journal of a place's file as `resume_named` does, and renews it if it is long.
-// Reports on standard error what was cut.
-fn resume_in_place<R: AllocGlobal + Eprint, P: Place>(
-    rt: &R,
+// Reports what was cut.
+fn resume_in_place<E: Eprint, P: Place>(
+    alloc: Global,
+    errors: &E,
     path: &str,
     place: &mut P,
     recorder: &Recorder,
@@ -135,18 +140,19 @@ fn resume_in_place<R: AllocGlobal + Eprint, P: Place>(
         → Continues (opening_of recorder.now.core).device (P.seen place.old) resumed) }
 {
     let depth = depth_of(options);
-    let Resumed { recorder, cut } = resume_named(rt.alloc(), place, recorder, depth)?;
+    let Resumed { recorder, cut } = resume_named(alloc, place, recorder, depth)?;
     if cut > 0 {
-        let _ = eprintln!(rt; "{path}: cut {cut} bytes of an interrupted write");
+        let _ = eprintln!(errors; "{path}: cut {cut} bytes of an interrupted write");
     }
-    renew_resumed(rt.alloc(), place, recorder, renewal_terms(options))
+    renew_resumed(alloc, place, recorder, renewal_terms(options))
 }
 
 // Opens the journal of a place. If it has a file, the journal is resumed: returns the recorder that
 // continues where it ends, and drops the given one. Otherwise it is begun with the given recorder,
 // which is returned.
-fn open_in_place<R: AllocGlobal + Eprint, P: Place>(
-    rt: &R,
+fn open_in_place<E: Eprint, P: Place>(
+    alloc: Global,
+    errors: &E,
     path: &str,
     place: &mut P,
     recorder: Recorder,
@@ -162,11 +168,11 @@ fn open_in_place<R: AllocGlobal + Eprint, P: Place>(
     ensures given { IfOk result (λ last. has_file ≡ false → last ≡ recorder) }
 {
     if has_file {
-        let resumed = resume_in_place(rt, path, place, &recorder, options);
+        let resumed = resume_in_place(alloc, errors, path, place, &recorder, options);
         drop(recorder);
         return resumed;
     }
-    match begin_journal(rt.alloc(), place, &recorder) {
+    match begin_journal(alloc, place, &recorder) {
         Ok(()) => Ok(recorder),
         Err(fault) => {
             drop(recorder);
@@ -175,10 +181,19 @@ fn open_in_place<R: AllocGlobal + Eprint, P: Place>(
     }
 }
 
+// Returns whether a path names a symbolic link. One that leads nowhere is no missing journal.
+fn is_link<R: Files<File = File>>(rt: &R, path: &str) -> bool {
+    match fs::symlink_metadata(rt, path) {
+        Ok(named) => named.file_type().is_symlink(),
+        Err(_) => false,
+    }
+}
+
 // Opens the journal of a path in its place, or begins it with this recorder if there is no file.
 // Returns the recorder of the meter.
-fn open_file<R: AllocGlobal + Eprint + Files<File = File> + Drop>(
+fn open_file<R: AllocGlobal + Files<File = File> + Drop, E: Eprint>(
     rt: &R,
+    errors: &E,
     path: &str,
     place: &mut StoredPlace<R>,
     recorder: Recorder,
@@ -187,21 +202,37 @@ fn open_file<R: AllocGlobal + Eprint + Files<File = File> + Drop>(
     requires { length recorder.events ≡ 0 }
     ensures { IfOk result (λ last. length last.events ≡ 0) }
 {
-    let mut access = File::options();
-    access.read(true).write(true);
-    match access.open(rt, path) {
+    match open_own(rt, path, FileAccess::Write) {
         Ok(file) => {
-            let Ok(file) = StoredFile::try_lock(file, MAX_BYTES) else {
+            let Ok(mut file) = StoredFile::try_lock(file, MAX_BYTES) else {
                 drop(recorder);
                 return Err(StartFault::File);
             };
+            let end = end_of(rt.alloc(), &mut file);
             place.set_file(file);
-            open_in_place(rt, path, place, recorder, options, true)
+            let opened = open_in_place(rt.alloc(), errors, path, place, recorder, options, true);
+            if opened.is_ok() {
+                keep_cut(rt, errors, path, end.as_slice(), options.mode);
+            }
+            drop(end);
+            opened
         }
-        Err(error) if error.kind() == ErrorKind::NotFound => open_in_place(
-            rt, path, place, recorder, options, false,
+        Err(error) if error.kind() == ErrorKind::NotFound && !is_link(rt, path) => open_in_place(
+            rt.alloc(),
+            errors,
+            path,
+            place,
+            recorder,
+            options,
+            false,
         ),
-        Err(_) => {
+        Err(error) => {
+            let _ = match error.kind() {
+                ErrorKind::NotFound | ErrorKind::InvalidInput => {
+                    eprintln!(errors; "{path}: a symbolic link is not followed")
+                }
+                _ => eprintln!(errors; "{path}: can't be opened for reading and writing: {error}"),
+            };
             drop(recorder);
             Err(StartFault::File)
         }
@@ -209,8 +240,9 @@ fn open_file<R: AllocGlobal + Eprint + Files<File = File> + Drop>(
 }
 
 // Opens the journal of a path as `open_file` does, with a file that is renewed when it has grown.
-fn open_renewed<R: AllocGlobal + Eprint + Files<File = File> + Copy + Drop>(
+fn open_renewed<R: AllocGlobal + Files<File = File> + Copy + Drop, E: Eprint>(
     rt: &R,
+    errors: &E,
     path: &str,
     recorder: Recorder,
     options: JournalOptions,
@@ -219,14 +251,14 @@ fn open_renewed<R: AllocGlobal + Eprint + Files<File = File> + Copy + Drop>(
     ensures unused { IfOk result (λ r. length r.1.events ≡ 0) }
     ensures terms { IfOk result (λ r. terms_of r.0 ≡ terms_for options) }
 {
-    let mut place = match place_of(rt, path, options.kept) {
+    let mut place = match place_of(rt, path, options) {
         Ok(place) => place,
         Err(fault) => {
             drop(recorder);
             return Err(fault);
         }
     };
-    match open_file(rt, path, &mut place, recorder, options) {
+    match open_file(rt, errors, path, &mut place, recorder, options) {
         Ok(last) => {
             let file = RenewedFile::new(rt.alloc(), place, renewal_terms(options));
             Ok((file, last))
@@ -244,8 +276,11 @@ fn fault_of(fault: StartFault) -> Fault
     ensures fault { result ≡ fault_of_start fault }
 {
     match fault {
-        StartFault::Line(_) | StartFault::TooLong | StartFault::Counted | StartFault::OtherMeter =>
-            Fault::Input,
+        StartFault::Line(_)
+        | StartFault::TooLong
+        | StartFault::Counted
+        | StartFault::OtherMeter
+        | StartFault::Damaged(_) => Fault::Input,
         StartFault::File => Fault::Write,
         StartFault::Memory => Fault::Memory,
     }
@@ -269,10 +304,11 @@ fn journal_with<R: AllocGlobal + Files<File = File> + Drop>(
     }
 }
 
-// Opens the journal of a path with its lock. Returns it, and the recorder of the meter. Reports on
-// standard error why it is not open.
-fn open_with_lock<R: AllocGlobal + Eprint + Files<File = File> + Copy + Drop>(
+// Opens the journal of a path with its lock. Returns it, and the recorder of the meter. Reports why
+// it is not open.
+fn open_with_lock<R: AllocGlobal + Files<File = File> + Copy + Drop, E: Eprint>(
     rt: &R,
+    errors: &E,
     path: &str,
     recorder: Recorder,
     options: JournalOptions,
@@ -283,14 +319,14 @@ fn open_with_lock<R: AllocGlobal + Eprint + Files<File = File> + Copy + Drop>(
     ensures terms { IfOk result (λ r. terms_of r.0.file ≡ terms_for options) }
     ensures err { IfErr result (λ fault. is_of_opening fault ≡ true) }
 {
-    let lock = match lock_journal(rt, path) {
+    let lock = match lock_journal(rt, errors, path) {
         Ok(lock) => lock,
         Err(fault) => {
             drop(recorder);
             return Err(fault);
         }
     };
-    match open_renewed(rt, path, recorder, options) {
+    match open_renewed(rt, errors, path, recorder, options) {
         Ok((file, last)) => match journal_with(rt, path, file, lock) {
             Ok(journal) => Ok((journal, last)),
             Err(fault) => {
@@ -299,7 +335,7 @@ fn open_with_lock<R: AllocGlobal + Eprint + Files<File = File> + Copy + Drop>(
             }
         },
         Err(fault) => {
-            let _ = eprintln!(rt; "{path}: {fault}");
+            let _ = eprintln!(errors; "{path}: {fault}");
             Err(fault_of(fault))
         }
     }
@@ -309,11 +345,13 @@ fn open_with_lock<R: AllocGlobal + Eprint + Files<File = File> + Copy + Drop>(
 /// meter, which has no event: the one that resumes where the journal ends, or the given one if the
 /// journal was begun with it.
 ///
-/// Errors, each with a line on standard error but `Memory`: `Input` if the path is empty, or the
-/// file is not the journal of a meter with this recorder's name; `Write` if another server has the
-/// journal, or a file can't be opened, read, written or locked; `Memory`.
-pub fn open_journal<R: AllocGlobal + Eprint + Files<File = File> + Copy + Drop>(
+/// Errors, each but `Memory` with a line that is printed to `errors`: `Input` if the path is empty,
+/// or the file is not the journal of a meter with this recorder's name, or is damaged before its
+/// last line; `Write` if another server has the journal, or a file can't be opened, read, written
+/// or locked; `Memory`.
+pub fn open_journal<R: AllocGlobal + Files<File = File> + Copy + Drop, E: Eprint>(
     rt: &R,
+    errors: &E,
     path: &str,
     recorder: Recorder,
     options: JournalOptions,
@@ -326,9 +364,9 @@ pub fn open_journal<R: AllocGlobal + Eprint + Files<File = File> + Copy + Drop>(
     ensures empty { path.now ≡ [] → IsErrOf result Fault.Input }
 {
     if path.is_empty() {
-        let _ = eprintln!(rt; "journal: expected the path of a file");
+        let _ = eprintln!(errors; "journal: expected the path of a file");
         drop(recorder);
         return Err(Fault::Input);
     }
-    open_with_lock(rt, path, recorder, options)
+    open_with_lock(rt, errors, path, recorder, options)
 }

@@ -5,14 +5,17 @@
 //! has. What the files of the operating system hold is tested, since no contract can say it.
 #![tactic(auto)]
 
+mod cutting;
 mod journal;
 mod lock;
 mod outputs;
 mod paths;
+mod relay_file;
 mod relay_log;
 
 pub use journal::{JournalOptions, OpenJournal, open_journal};
 pub use outputs::{
-    EventFile, EventOutput, RelayAlone, RelayOptions, RelayedJournal, StoredJournal, open_outputs,
+    EventFile, EventOutput, RelayAlone, RelayedJournal, StoredJournal, open_outputs,
 };
-pub use relay_log::RelayLog;
+pub use relay_file::RelayFile;
+pub use relay_log::{RelayLog, RelayOptions};

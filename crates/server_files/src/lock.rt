@@ -8,9 +8,10 @@ use program::Fault;
 use std::alloc::AllocGlobal;
 use std::fs::{File, Files};
 
-// Returns the lock of a journal, or reports on standard error why it is not held.
-pub(crate) fn lock_journal<R: AllocGlobal + Eprint + Files<File = File>>(
+// Returns the lock of a journal, or reports why it is not held.
+pub(crate) fn lock_journal<R: AllocGlobal + Files<File = File>, E: Eprint>(
     rt: &R,
+    errors: &E,
     path: &str,
 ) -> Result<LockFile, Fault>
     ensures err { IfErr result (λ fault. is_of_opening fault ≡ true) }
@@ -22,11 +23,11 @@ pub(crate) fn lock_journal<R: AllocGlobal + Eprint + Files<File = File>>(
     match LockFile::try_lock(rt, lock_path.as_str()) {
         Ok(lock) => Ok(lock),
         Err(LockFault::Held) => {
-            let _ = eprintln!(rt; "{path}: another server has this journal");
+            let _ = eprintln!(errors; "{path}: another server has this journal");
             Err(Fault::Write)
         }
         Err(LockFault::Failed) => {
-            let _ = eprintln!(rt; "{lock_path}: the lock file can't be opened and locked");
+            let _ = eprintln!(errors; "{lock_path}: the lock file can't be opened and locked");
             Err(Fault::Write)
         }
     }

@@ -6,12 +6,14 @@ ghost use Rattle.server_files.specs.Outputs.{IsOutputOf, KeepsJournal};
 
 use crate::journal::OpenJournal;
 use crate::paths::with_suffix;
-use crate::relay_log::{RelayLog, open_relay};
+use crate::relay_file::RelayFile;
+use crate::relay_log::{RelayLog, RelayOptions, open_relay};
 use durable_lines::{DurableFile, LockFile, StoredPlace};
 use journal_files::RenewedFile;
-use meter_relay::{OptionalFile, Relay, RelayFault, RelayedFile};
+use meter_relay::{OptionalFile, Relay, RelayedFile};
 use program::Fault;
 use relay_core::RelayCore;
+use session_log::Log;
 use std::alloc::AllocGlobal;
 use std::fs::{File, Files};
 use std::time::Clock;
@@ -20,10 +22,10 @@ use std::time::Clock;
 pub type StoredJournal<R> = RenewedFile<StoredPlace<R>>;
 
 /// The file of a journal, with the relay of the meter if it has one.
-pub type RelayedJournal<F, R> = RelayedFile<F, File, RelayLog<R>>;
+pub type RelayedJournal<F, R> = RelayedFile<F, RelayFile<R>, RelayLog<R>>;
 
 /// The file of a meter that has a relay, but no journal.
-pub type RelayAlone<F, R> = RelayedFile<OptionalFile<F>, File, RelayLog<R>>;
+pub type RelayAlone<F, R> = RelayedFile<OptionalFile<F>, RelayFile<R>, RelayLog<R>>;
 
 /// A file that is given the lines of a meter's events.
 #[derive(Drop)]
@@ -38,7 +40,7 @@ pub struct EventFile<F: DurableFile> {
 
 /// The outputs of a meter's events.
 #[derive(Drop)]
-pub enum EventOutput<R: Clock + Eprint + Files<File = File> + Drop> {
+pub enum EventOutput<R: Clock + Files<File = File> + Copy + Drop> {
     /// Neither a journal nor a relay.
     None,
     /// A journal, with the relay of the meter if it has one.
@@ -47,39 +49,28 @@ pub enum EventOutput<R: Clock + Eprint + Files<File = File> + Drop> {
     Relay(EventFile<RelayAlone<StoredJournal<R>, R>>),
 }
 
-/// The relay that a command line names.
-#[derive(Clone, Copy)]
-pub struct RelayOptions<'a> {
-    /// The path of the relay, if there is one.
-    pub path: Option<&'a str>,
-    /// Whether each change is reported on standard error.
-    pub is_verbose: bool,
-}
-
 // Opens the relay of the options, if they name one, for the meter of this core.
-fn start_relay<R: Clock + Eprint + AllocGlobal + Files<File = File> + Copy + Drop>(
+fn start_relay<R: Clock + AllocGlobal + Files<File = File> + Copy + Drop>(
     rt: &R,
+    log: &Log,
     options: RelayOptions<'_>,
     core: &RelayCore,
-) -> Result<Option<Relay<File, RelayLog<R>>>, Fault>
+    journal: Option<&str>,
+) -> Result<Option<Relay<RelayFile<R>, RelayLog<R>>>, Fault>
     ensures is_some { IfOk result (λ relay. is_some relay ≡ is_some options.entry.path) }
     ensures err { IfErr result (λ fault. is_of_opening fault ≡ true) }
 {
     let Some(path) = options.path else {
         return Ok(None);
     };
-    match open_relay(rt, path, core, options.is_verbose) {
-        Ok(relay) => Ok(Some(relay)),
-        Err(RelayFault::Memory) => Err(Fault::Memory),
-        Err(_) => Err(Fault::Write),
-    }
+    Ok(Some(open_relay(rt, log, path, options, core, journal)?))
 }
 
 // Returns a meter's relay as the file of its events.
-fn relay_alone<R: Clock + Eprint + AllocGlobal + Files<File = File> + Drop>(
+fn relay_alone<R: Clock + AllocGlobal + Files<File = File> + Copy + Drop>(
     rt: &R,
     path: &str,
-    relay: Relay<File, RelayLog<R>>,
+    relay: Relay<RelayFile<R>, RelayLog<R>>,
 ) -> Result<EventFile<RelayAlone<StoredJournal<R>, R>>, Fault>
     ensures relay { IfOk result (λ alone. relay_of alone.file ≡ Some relay) }
     ensures err { IfErr result (λ fault. is_of_opening fault ≡ true) }
@@ -101,10 +92,11 @@ fn relay_alone<R: Clock + Eprint + AllocGlobal + Files<File = File> + Drop>(
 /// the journal, if there is one, whose file then has the relay. The relay is given the supply
 /// output.
 ///
-/// Errors: `Write` if the relay can't be opened or written, with a line on standard error;
-/// `Memory`. After an error the journal is closed.
-pub fn open_outputs<R: Clock + Eprint + AllocGlobal + Files<File = File> + Copy + Drop>(
+/// Errors: `Write` if the relay can't be opened or written, `Input` if its file is one of the
+/// journal, each with a line in the log; `Memory`. After an error the journal is closed.
+pub fn open_outputs<R: Clock + AllocGlobal + Files<File = File> + Copy + Drop>(
     rt: &R,
+    log: &Log,
     options: RelayOptions<'_>,
     core: &RelayCore,
     journal: Option<OpenJournal<R>>,
@@ -113,7 +105,11 @@ pub fn open_outputs<R: Clock + Eprint + AllocGlobal + Files<File = File> + Copy 
     ensures journal { IfOk result (KeepsJournal journal) }
     ensures err { IfErr result (λ fault. is_of_opening fault ≡ true) }
 {
-    let relay = match start_relay(rt, options, core) {
+    let path = match &journal {
+        Some(journal) => Some(journal.path.as_str()),
+        None => None,
+    };
+    let relay = match start_relay(rt, log, options, core, path) {
         Ok(relay) => relay,
         Err(fault) => {
             drop(journal);

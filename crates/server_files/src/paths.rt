@@ -8,6 +8,9 @@ use std::alloc::{AllocError, Global};
 // The suffix of the path of a journal's lock file.
 pub(crate) const LOCK_SUFFIX: &str = ".lock";
 
+// The suffix of the path of the bytes that were cut off a journal.
+pub(crate) const CUT_SUFFIX: &str = ".cut";
+
 // The suffix of the path of the draft that replaces a journal.
 const DRAFT_SUFFIX: &str = ".new";
 
@@ -44,13 +47,19 @@ fn older_paths(alloc: Global, path: &str, count: u16) -> Result<Vec<String>, All
 }
 
 // Returns the paths of the place of a journal, which keeps this number of files that were
-// replaced.
-pub(crate) fn place_paths(alloc: Global, path: &str, kept: u16) -> Result<PlacePaths, AllocError>
+// replaced, and makes files with these permissions.
+pub(crate) fn place_paths(
+    alloc: Global,
+    path: &str,
+    kept: u16,
+    mode: u32,
+) -> Result<PlacePaths, AllocError>
     ensures { IfOk result (ArePathsOf path.now kept) }
 {
     Ok(PlacePaths {
         path: with_suffix(alloc, path, "")?,
         draft: with_suffix(alloc, path, DRAFT_SUFFIX)?,
         older: older_paths(alloc, path, kept)?,
+        mode,
     })
 }

@@ -3,7 +3,7 @@ ghost use Rattle.std.specs.Prelude.{◌≡◌, false};
 
 use crate::accepting::{AcceptError, meaning_of};
 use meter_server::ListenFault;
-use session_log::LogTime;
+use session_log::{Log, LogTime};
 use std::alloc::Global;
 use std::net::{SocketAddr, TcpListener, TcpStream};
 use std::sync::Arc;
@@ -22,6 +22,7 @@ pub type Stopped = Arc<AtomicBool, Global>;
 #[derive(Drop)]
 pub(crate) struct Arrivals<R> {
     rt: R,
+    log: Log,
     listener: TcpListener,
     stopped: Stopped,
     // Whether clients have had to wait since the last one was accepted, because of an error.
@@ -29,13 +30,14 @@ pub(crate) struct Arrivals<R> {
     pub(crate) has_failed: bool,
 }
 
-impl<R: Clock + Eprint + Copy> Arrivals<R> {
+impl<R: Clock + Copy> Arrivals<R> {
     // Returns the connections of this listener, which has not failed.
-    pub(crate) fn new(rt: R, listener: TcpListener, stopped: Stopped) -> Arrivals<R>
+    pub(crate) fn new(rt: R, log: Log, listener: TcpListener, stopped: Stopped) -> Arrivals<R>
         ensures { result.has_failed ≡ false }
     {
         Arrivals {
             rt,
+            log,
             listener,
             stopped,
             is_waiting: false,
@@ -47,7 +49,7 @@ impl<R: Clock + Eprint + Copy> Arrivals<R> {
     fn wait_after(&mut self, error: &io::Error) {
         if !self.is_waiting {
             let now = LogTime::now(&self.rt);
-            let _ = eprintln!(self.rt; "{now} no client can be accepted, trying again: {error}");
+            let _ = eprintln!(self.log; "{now} no client can be accepted, trying again: {error}");
         }
         self.is_waiting = true;
         thread::sleep(&self.rt, Duration::from_millis(ATTEMPT_PAUSE));
@@ -57,7 +59,7 @@ impl<R: Clock + Eprint + Copy> Arrivals<R> {
     fn end_waiting(&mut self) {
         if self.is_waiting {
             let now = LogTime::now(&self.rt);
-            let _ = eprintln!(self.rt; "{now} clients are accepted again");
+            let _ = eprintln!(self.log; "{now} clients are accepted again");
         }
         self.is_waiting = false;
     }
@@ -65,7 +67,7 @@ impl<R: Clock + Eprint + Copy> Arrivals<R> {
     // Fails by a final error, which is reported.
     fn fail(&mut self, error: &io::Error) {
         let now = LogTime::now(&self.rt);
-        let _ = eprintln!(self.rt;
+        let _ = eprintln!(self.log;
             "{now} listening failed, no further client is accepted: {error}"
         );
         self.has_failed = true;

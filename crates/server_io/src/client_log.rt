@@ -1,7 +1,7 @@
-//! Messages about clients on standard error.
+//! The lines of the log about clients.
 use acse_ber::PUBLIC_CLIENT;
 use meter_server::{ServeFault, SessionEnd};
-use session_log::{AnswerCount, AnswerKind, LogTime, read_answer, reason_of};
+use session_log::{AnswerCount, AnswerKind, Log, LogTime, read_answer, reason_of};
 use std::alloc::Global;
 use std::net::SocketAddr;
 use std::sync::atomic::{AtomicBool, Ordering};
@@ -62,42 +62,43 @@ impl fmt::Display for ClientNews<'_> {
     }
 }
 
-// Writes a line on standard error: the time, the client, and what is reported of it.
-fn write_line<R: Clock + Eprint>(rt: &R, client: LoggedClient, news: &ClientNews<'_>) {
+// Appends a line to a log, if there is one: the time, the client, and what is reported of it.
+fn write_line<R: Clock>(rt: &R, log: &Option<Log>, client: LoggedClient, news: &ClientNews<'_>) {
+    let Some(log) = log else {
+        return;
+    };
     let now = LogTime::now(rt);
     let LoggedClient { number, address } = client;
-    let _ = eprintln!(rt; "{now} client {number}, {address}: {news}");
+    let _ = eprintln!(log; "{now} client {number}, {address}: {news}");
 }
 
-// Reports one client on standard error, if this is enabled: a line when it connects, one for each
-// answer to an association request, and one when its session ends or it is turned away.
-pub(crate) struct ClientLog<R: Clock + Eprint + Copy> {
+// Reports one client in the log, if there is one: a line when it connects, one for each answer to
+// an association request, and one when its session ends or it is turned away.
+pub(crate) struct ClientLog<R: Clock + Copy> {
     rt: R,
     alloc: Global,
     client: LoggedClient,
-    is_verbose: bool,
+    log: Option<Log>,
     has_ended: AtomicBool,
     // The bytes sent to the client that are not a whole frame yet.
     sent: Deframer,
     count: AnswerCount,
 }
 
-impl<R: Clock + Eprint + Copy> ClientLog<R> {
+impl<R: Clock + Copy> ClientLog<R> {
     // Reports that a client connected, and returns its log.
     pub(crate) fn new(
         rt: R,
         alloc: Global,
         client: LoggedClient,
-        is_verbose: bool,
+        log: Option<Log>,
     ) -> ClientLog<R> {
-        if is_verbose {
-            write_line(&rt, client, &ClientNews::Connected);
-        }
+        write_line(&rt, &log, client, &ClientNews::Connected);
         ClientLog {
             rt,
             alloc,
             client,
-            is_verbose,
+            log,
             has_ended: AtomicBool::new(false),
             sent: Deframer::new(alloc),
             count: AnswerCount::new(),
@@ -116,13 +117,13 @@ impl<R: Clock + Eprint + Copy> ClientLog<R> {
             AnswerKind::NotOpened(diagnostic) => ClientNews::NotAssociated(diagnostic),
             AnswerKind::Served | AnswerKind::Refused | AnswerKind::Other => return,
         };
-        write_line(&self.rt, self.client, &news);
+        write_line(&self.rt, &self.log, self.client, &news);
     }
 
     // Reads the answers in bytes that were sent to the client. Once it runs out of memory, it may
     // count too few.
     pub(crate) fn read_sent(&mut self, bytes: &[u8]) {
-        if !self.is_verbose || self.sent.feed(bytes).is_err() {
+        if self.log.is_none() || self.sent.feed(bytes).is_err() {
             return;
         }
         for _ in 0..=bytes.len() {
@@ -136,37 +137,35 @@ impl<R: Clock + Eprint + Copy> ClientLog<R> {
     // Reports how the client's session ended, and how many of its requests were answered.
     pub(crate) fn end(&self, end: &Result<SessionEnd, ServeFault>) {
         self.has_ended.store(true, Ordering::SeqCst);
-        if !self.is_verbose {
-            return;
-        }
-        write_line(&self.rt, self.client, &ClientNews::Ended(end, self.count));
+        let news = ClientNews::Ended(end, self.count);
+        write_line(&self.rt, &self.log, self.client, &news);
     }
 
     // Reports that the client is turned away because its stream could not be set up.
     pub(crate) fn turn_away(self, error: &io::Error) {
         self.has_ended.store(true, Ordering::SeqCst);
-        if self.is_verbose {
-            write_line(&self.rt, self.client, &ClientNews::NotSetUp(error));
-        }
+        let news = ClientNews::NotSetUp(error);
+        write_line(&self.rt, &self.log, self.client, &news);
         drop(self);
     }
 }
 
 /// Reports the client as turned away if its log is dropped before a session ended.
-impl<R: Clock + Eprint + Copy> Drop for ClientLog<R> {
+impl<R: Clock + Copy> Drop for ClientLog<R> {
     fn drop(self) {
         let ClientLog {
             rt,
             client,
-            is_verbose,
+            log,
             has_ended,
             sent,
             alloc: _,
             count: _,
         } = self;
         drop(sent);
-        if is_verbose && !has_ended.load(Ordering::SeqCst) {
-            write_line(&rt, client, &ClientNews::TurnedAway);
+        if !has_ended.load(Ordering::SeqCst) {
+            write_line(&rt, &log, client, &ClientNews::TurnedAway);
         }
+        drop(log);
     }
 }

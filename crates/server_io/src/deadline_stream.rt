@@ -10,7 +10,7 @@ use std::time::{Clock, Duration, Instant};
 /// One direction of a client's stream, with deadlines. A call fails if it or the session takes too
 /// long. The direction to the client has the client's log.
 #[derive(Drop)]
-pub struct DeadlineStream<R: Clock + Eprint + Copy> {
+pub struct DeadlineStream<R: Clock + Copy> {
     rt: R,
     stream: TcpStream,
     opened: Instant,
@@ -18,7 +18,7 @@ pub struct DeadlineStream<R: Clock + Eprint + Copy> {
     log: Option<ClientLog<R>>,
 }
 
-impl<R: Clock + Eprint + Copy> DeadlineStream<R> {
+impl<R: Clock + Copy> DeadlineStream<R> {
     // Returns the input and the output of a stream whose session begins now.
     pub(crate) fn split_stream(
         rt: R,
@@ -74,7 +74,7 @@ impl<R: Clock + Eprint + Copy> DeadlineStream<R> {
     }
 }
 
-impl<R: Clock + Eprint + Copy> Read for DeadlineStream<R> {
+impl<R: Clock + Copy> Read for DeadlineStream<R> {
     fn read(&mut self, buffer: &mut [u8]) -> io::Result<usize> {
         let left = self.left()?;
         if left != self.limits.call {
@@ -84,7 +84,7 @@ impl<R: Clock + Eprint + Copy> Read for DeadlineStream<R> {
     }
 }
 
-impl<R: Clock + Eprint + Copy> Write for DeadlineStream<R> {
+impl<R: Clock + Copy> Write for DeadlineStream<R> {
     fn write(&mut self, bytes: &[u8]) -> io::Result<usize> {
         let left = self.left()?;
         if left != self.limits.call {
@@ -100,7 +100,7 @@ impl<R: Clock + Eprint + Copy> Write for DeadlineStream<R> {
     }
 }
 
-impl<R: Clock + Eprint + Copy> Observer for DeadlineStream<R> {
+impl<R: Clock + Copy> Observer for DeadlineStream<R> {
     fn on_session_end(&self, end: &Result<SessionEnd, ServeFault>) {
         if let Some(log) = &self.log {
             log.end(end);

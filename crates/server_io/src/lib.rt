@@ -1,7 +1,7 @@
 //! The sockets of a served meter.
 //!
-//! [`Sockets`] accepts clients, whose streams have time limits for reads and writes, and prints
-//! messages about each client on standard error. [`Closing`] ends the listening.
+//! [`Sockets`] accepts clients, whose streams have time limits for reads and writes, and reports
+//! each client in the log. [`Closing`] ends the listening.
 #![tactic(auto)]
 
 mod accepting;

@@ -1,5 +1,5 @@
 //! The sockets to which clients connect.
-ghost use Rattle.std.specs.Prelude.{◌≡◌, ◌<◌, ◌+◌, false, Some};
+ghost use Rattle.std.specs.Prelude.{◌≡◌, ◌<◌, ◌+◌, false, IfOk, Some};
 ghost use Rattle.meter_server.specs.Listening.{setup_failures_in};
 ghost use Rattle.server_io.specs.Clients.{accepted_of, has_failed, is_logged, limits_of};
 ghost use Rattle.server_io.specs.Clients.{setup_failures_of};
@@ -9,20 +9,23 @@ use crate::client_log::{ClientLog, LoggedClient};
 use crate::deadline_stream::DeadlineStream;
 use crate::limits::StreamLimits;
 use meter_server::{ListenFault, Listener};
-use std::alloc::Global;
+use session_log::Log;
+use std::alloc::{AllocError, Global};
 use std::net::{SocketAddr, TcpListener, TcpStream};
 use std::time::Clock;
 
 /// A listening socket for clients.
 ///
 /// An error of the operating system ends the listening only if it is final. After one that passes,
-/// such as a lack of descriptors, it tries again every 100 ms until a client is accepted. Standard
-/// error has a line for the first of these errors, for the next client that is accepted, and for a
-/// final error.
+/// such as a lack of descriptors, it tries again every 100 ms until a client is accepted. The log
+/// has a line for the first of these errors, for the next client that is accepted, and for a final
+/// error.
 #[derive(Drop)]
 pub struct Sockets<R> {
     rt: R,
     alloc: Global,
+    // The log of the clients.
+    log: Log,
     arrivals: Arrivals<R>,
     limits: StreamLimits,
     is_verbose: bool,
@@ -32,31 +35,45 @@ pub struct Sockets<R> {
     setup_failures: u64,
 }
 
-impl<R: Clock + Eprint + Copy> Sockets<R> {
+impl<R: Clock + Copy> Sockets<R> {
     /// Returns the clients of this listener. A read or write fails if it, or the session, takes
-    /// longer than `limits`. If `is_verbose`, each client is reported on standard error.
+    /// longer than `limits`. If `is_verbose`, each client is reported in the log. Errors:
+    /// `AllocError`.
     pub fn new(
         rt: R,
+        log: Log,
         alloc: Global,
         listener: TcpListener,
         limits: StreamLimits,
         stopped: Stopped,
         is_verbose: bool,
-    ) -> Sockets<R>
-        ensures unfailed { has_failed result ≡ false }
-        ensures limits { limits_of result ≡ limits }
-        ensures verbose { is_logged result ≡ is_verbose }
-        ensures accepted { accepted_of result ≡ 0 }
-        ensures setup_failures { setup_failures_of result ≡ 0 }
+    ) -> Result<Sockets<R>, AllocError>
+        ensures unfailed { IfOk result (λ made. has_failed made ≡ false) }
+        ensures limits { IfOk result (λ made. limits_of made ≡ limits) }
+        ensures verbose { IfOk result (λ made. is_logged made ≡ is_verbose) }
+        ensures accepted { IfOk result (λ made. accepted_of made ≡ 0) }
+        ensures setup_failures { IfOk result (λ made. setup_failures_of made ≡ 0) }
     {
-        Sockets {
+        let second = log.share()?;
+        Ok(Sockets {
             rt,
             alloc,
-            arrivals: Arrivals::new(rt, listener, stopped),
+            log,
+            arrivals: Arrivals::new(rt, second, listener, stopped),
             limits,
             is_verbose,
             set_up: 0,
             setup_failures: 0,
+        })
+    }
+
+    // Returns a handle of the log for a client, or `None` if clients are not reported, or memory is
+    // out.
+    fn client_log(&self) -> Option<Log> {
+        if self.is_verbose {
+            self.log.share().ok()
+        } else {
+            None
         }
     }
 
@@ -88,7 +105,7 @@ impl<R: Clock + Eprint + Copy> Sockets<R> {
                 .saturating_add(1),
             address,
         };
-        let log = ClientLog::new(self.rt, self.alloc, client, self.is_verbose);
+        let log = ClientLog::new(self.rt, self.alloc, client, self.client_log());
         match DeadlineStream::split_stream(self.rt, stream, self.limits) {
             Ok((input, output)) => {
                 self.set_up += 1;
@@ -103,7 +120,7 @@ impl<R: Clock + Eprint + Copy> Sockets<R> {
     }
 }
 
-impl<R: Clock + Eprint + Copy + Drop + Send + 'static> Listener for Sockets<R> {
+impl<R: Clock + Copy + Drop + Send + 'static> Listener for Sockets<R> {
     type Input = DeadlineStream<R>;
 
     type Output = DeadlineStream<R>;

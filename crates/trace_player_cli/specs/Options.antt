@@ -2,7 +2,6 @@
 --     IsBound        the number of an event, if the option is given
 --     IsFormat       the format that the option `--format` names
 --     IsView         the view that the options describe
---     IsDescribed    faults are described
 --     AreInOrder     bounds of which the upper one is not below the lower one
 use Rattle.std.specs.Prelude.{◌≡◌, ◌<◌, ◌≤◌, ◌^◌, ◌⊎◌, Bool, true, false}
 use Rattle.std.specs.Prelude.{codes, List, ℕ, Option, Some, None}
@@ -42,7 +41,3 @@ pub record IsView (found : Found) (view : TraceView) : Type 0 where
 abbrev pub AreInOrder : Option ℕ → Option ℕ → Type 0
 AreInOrder (Some first) (Some last) = first ≤ last
 AreInOrder _ _ = Unit {0}
-
--- whether faults are described with either of the options
-abbrev pub IsDescribed : Bool → Bool → Type 0
-IsDescribed is_partial is_verbose = (is_partial ≡ true) ⊎ (is_verbose ≡ true)

@@ -1,14 +1,16 @@
 //! The command line and its help.
 use clap::{Arg, ArgAction, Command};
-use program::options::{FORMATS, NumberRange, OptionText, OptionValue, Presence, with_options};
+use program::options::{
+    FORMATS, NumberRange, OptionText, OptionValue, Presence, VERBOSE, with_options,
+};
 use program::with_argument;
 use std::alloc::{AllocError, Global};
 
 // The last lines of `--help`.
 const LIMITS_AND_STATUSES: &str = "\
 Limits: a trace has at most 33,554,432 bytes and 65,536 events, a journal any number of events.
-A fault is the line `fault: WORD` on standard error. \
-With --verbose, a line before it says what was expected and what was found.
+A fault is the line `fault: WORD` on standard error; \
+a line before it says what was expected and what was found.
 Exit status: 0 success; 2 the command line or the input is wrong; \
 3 reading or writing failed; 4 out of memory.
 Example: trace_player run.trace";
@@ -58,15 +60,7 @@ const PARTIAL: OptionText = OptionText {
     name: "partial",
     value: OptionValue::Nothing,
     presence: Presence::Optional,
-    help: "Play a damaged trace up to its first wrong line, and report that line on standard error",
-};
-
-// `--verbose`.
-const VERBOSE: OptionText = OptionText {
-    name: "verbose",
-    value: OptionValue::Nothing,
-    presence: Presence::Optional,
-    help: "Report on standard error what is wrong, or how many bytes of a journal were left out",
+    help: "Play a damaged trace up to its first wrong line",
 };
 
 // The options, in the order of the help.

@@ -44,31 +44,26 @@ fn fault_of(fault: PlayFault) -> Fault
     }
 }
 
-// Plays the trace of a stream, each event as soon as its line is read.
-fn play_stream<T: Read + Drop>(rt: &HostRuntime, stream: T) -> Result<(), Fault> {
-    let mut reader = Counted::new(stream);
-    let mut writer = Counted::new(rt.stdout());
-    match play(rt.alloc(), &mut reader, &mut writer) {
-        Ok(_) => Ok(()),
-        Err(fault) => Err(fault_of(fault)),
-    }
-}
-
-// Returns the program's fault for a trace that was not played. If the options ask for it, reports
-// on standard error what was expected and what was found in `text`, which was read from `name`.
-fn report(
-    rt: &HostRuntime,
-    name: &str,
-    text: &[u8],
-    fault: PlayFault,
-    options: &Options<'_>,
-) -> Fault
+// Returns the program's fault for a trace that was not played. Reports on standard error what was
+// expected and what was found in `text`, which was read from `name`.
+fn report(rt: &HostRuntime, name: &str, text: &[u8], fault: PlayFault) -> Fault
     ensures { result ≡ fault_of fault }
 {
-    if options.describes_faults() {
-        report_fault(rt, name, text, fault);
-    }
+    report_fault(rt, name, text, fault);
     fault_of(fault)
+}
+
+// Plays a trace, and prints what the options ask for.
+fn play_with(rt: &HostRuntime, text: &[u8], options: &Options<'_>) -> Result<(), PlayFault> {
+    let mut writer = Counted::new(rt.stdout());
+    if options.is_partial {
+        return play_front(rt.alloc(), text, &options.view, &mut writer);
+    }
+    if options.is_plain() {
+        play(rt.alloc(), &mut Counted::new(text), &mut writer)?;
+        return Ok(());
+    }
+    play_view(rt.alloc(), text, &options.view, &mut writer)
 }
 
 // Plays a trace that was read from `name`, and prints what the options ask for.
@@ -78,38 +73,27 @@ fn play_text(
     text: &[u8],
     options: &Options<'_>,
 ) -> Result<(), Fault> {
-    let mut writer = Counted::new(rt.stdout());
-    let played = if options.is_partial {
-        play_front(rt.alloc(), text, &options.view, &mut writer)
-    } else {
-        play_view(rt.alloc(), text, &options.view, &mut writer)
-    };
-    match played {
+    match play_with(rt, text, options) {
         Ok(()) => {
-            if options.is_verbose {
-                report_left_out(rt, name, text);
-            }
+            report_left_out(rt, name, text);
             Ok(())
         }
-        Err(fault) => Err(report(rt, name, text, fault, options)),
+        Err(fault) => Err(report(rt, name, text, fault)),
     }
 }
 
 // Plays the trace of a stream, which is called `name` in messages, and prints what the options ask
-// for. For any option it holds the whole text in memory.
+// for. It holds the whole text in memory, so that it can say what is wrong in it.
 fn play_input<T: Read + Drop>(
     rt: &HostRuntime,
     name: &str,
     stream: T,
     options: &Options<'_>,
 ) -> Result<(), Fault> {
-    if options.is_plain() {
-        return play_stream(rt, stream);
-    }
     let mut input = Counted::new(stream);
     match read_to_end_within(rt.alloc(), &mut input, MAX_BYTES) {
         Ok(text) => play_text(rt, name, text.as_slice(), options),
-        Err(fault) => Err(report(rt, name, &[], PlayFault::from(fault), options)),
+        Err(fault) => Err(report(rt, name, &[], PlayFault::from(fault))),
     }
 }
 
@@ -120,7 +104,7 @@ fn play_file(rt: &HostRuntime, options: &Options<'_>) -> Result<(), Fault> {
     };
     match fs::open(rt, path) {
         Ok(stream) => play_input(rt, path, stream, options),
-        Err(error) => Err(report_not_opened(rt, path, error.kind(), options.describes_faults())),
+        Err(error) => Err(report_not_opened(rt, path, error.kind())),
     }
 }
 

@@ -1,4 +1,4 @@
-//! The messages that `--verbose` writes: why a text is not a trace, and how many bytes a journal
+//! The messages on standard error: why a text is not a trace, and how many bytes a journal
 //! has after its last whole line.
 use text_lines::{TextLines, Words, read_number};
 use thiserror::Error;

@@ -28,19 +28,12 @@ fn why_not_opened(kind: ErrorKind) -> &'static str {
     }
 }
 
-// Returns the program's fault for a file that cannot be opened. If `is_told`, reports the reason
-// on standard error.
-pub(crate) fn report_not_opened(
-    rt: &HostRuntime,
-    path: &str,
-    kind: ErrorKind,
-    is_told: bool,
-) -> Fault
+// Returns the program's fault for a file that cannot be opened, and reports the reason on standard
+// error.
+pub(crate) fn report_not_opened(rt: &HostRuntime, path: &str, kind: ErrorKind) -> Fault
     ensures memory { kind ≡ ErrorKind.OutOfMemory → result ≡ program.Memory }
     ensures read { kind ≢ ErrorKind.OutOfMemory → result ≡ program.Read }
 {
-    if is_told {
-        let _ = eprintln!(rt; "{path}: {}", why_not_opened(kind));
-    }
+    let _ = eprintln!(rt; "{path}: {}", why_not_opened(kind));
     fault_of_opening(kind)
 }

@@ -1,7 +1,7 @@
 //! The options of the command line as values.
-ghost use Rattle.std.specs.Prelude.{◌≡◌, ◌↔◌, codes, IsTrue};
+ghost use Rattle.std.specs.Prelude.{◌≡◌, ◌↔◌, codes, false, IsTrue};
 ghost use Rattle.clap.specs.Matches.{found_of};
-ghost use Rattle.trace_player_cli.specs.Options.{AreInOrder, IsBound, IsDescribed, IsFormat};
+ghost use Rattle.trace_player_cli.specs.Options.{AreInOrder, IsBound, IsFormat};
 ghost use Rattle.program.specs.Values.{IsFlag};
 ghost use Rattle.trace_player_cli.specs.Options.{IsView};
 ghost use Rattle.trace_views.specs.Views.{whole_view};
@@ -18,24 +18,15 @@ pub(crate) struct Options<'a> {
     pub(crate) view: TraceView,
     // Whether the whole events before the first wrong line are played.
     pub(crate) is_partial: bool,
-    // Whether faults are described on standard error.
-    pub(crate) is_verbose: bool,
 }
 
 impl Options<'_> {
-    // Returns whether faults are described on standard error: with `--partial` or `--verbose`.
-    pub(crate) fn describes_faults(&self) -> bool
-        ensures { IsTrue result ↔ IsDescribed self.now.is_partial self.now.is_verbose }
-    {
-        self.is_partial || self.is_verbose
-    }
-
-    // Returns whether the whole output of a trace is asked for, with no description of a fault.
+    // Returns whether the whole output of a whole trace is asked for.
     pub(crate) fn is_plain(&self) -> bool
         ensures view { IsTrue result → self.now.view ≡ whole_view }
-        ensures faults { IsTrue result → ¬ (IsDescribed self.now.is_partial self.now.is_verbose) }
+        ensures whole { IsTrue result → self.now.is_partial ≡ false }
     {
-        !self.describes_faults() && self.view == TraceView::whole()
+        !self.is_partial && self.view == TraceView::whole()
     }
 }
 
@@ -94,7 +85,6 @@ fn view_of(matches: &ArgMatches<'_>) -> TraceView
 pub(crate) fn options_of<'a>(matches: &ArgMatches<'a>) -> Options<'a>
     ensures view { IsView (found_of matches.now) result.view }
     ensures is_partial { IsFlag (found_of matches.now) (codes "partial") result.is_partial }
-    ensures is_verbose { IsFlag (found_of matches.now) (codes "verbose") result.is_verbose }
 {
     let file = match matches.get_str("file") {
         Some("-") => None,
@@ -104,7 +94,6 @@ pub(crate) fn options_of<'a>(matches: &ArgMatches<'a>) -> Options<'a>
         file,
         view: view_of(matches),
         is_partial: is_set(matches, "partial"),
-        is_verbose: is_set(matches, "verbose"),
     }
 }
 

@@ -1,0 +1,116 @@
+//! The file of a relay: it is opened again if its path names another file.
+use crate::paths::with_suffix;
+use durable_lines::{FileAccess, is_same_file, open_or_create};
+use libc::types::pollfd;
+use session_log::{Log, LogTime};
+use std::alloc::Global;
+use std::fs::{File, Files, Metadata};
+use std::io::Write;
+use std::os::fd::AsRawFd;
+use std::os::unix::fs::FileTypeExt;
+use std::time::Clock;
+use std::{fs, io};
+
+/// The file that is given the supply output. Before each change it is compared with the file that
+/// its path names. If that is another one, or none, it is opened again, and made if it is missing,
+/// with a line in the log. For a named pipe the log also reports that the change before has not
+/// been read.
+#[derive(Drop)]
+pub struct RelayFile<R> {
+    rt: R,
+    log: Log,
+    path: String,
+    mode: u32,
+    file: File,
+    is_pipe: bool,
+    // Whether it was reported that the change before has not been read.
+    is_unread: bool,
+}
+
+// Returns whether what was written to a named pipe has not been read.
+fn has_unread(pipe: &File) -> bool {
+    let mut asked = [pollfd {
+        fd: pipe.as_raw_fd(),
+        events: libc::net::POLLIN,
+        revents: 0,
+    }];
+    libc::net::poll(&mut asked, 0) == 1
+}
+
+impl<R: Clock + Files<File = File> + Copy> RelayFile<R> {
+    // Opens the file of a path, which is made with these permissions if it is missing. The open
+    // does not wait: a named pipe is opened for reading, too, so that it keeps what is written
+    // until a reader opens it.
+    pub(crate) fn open(
+        rt: R,
+        log: Log,
+        alloc: Global,
+        path: &str,
+        mode: u32,
+    ) -> io::Result<RelayFile<R>> {
+        let file = open_or_create(&rt, path, FileAccess::Append, mode)?;
+        let is_pipe = file.metadata()?.file_type().is_fifo();
+        let path = with_suffix(alloc, path, "")?;
+        Ok(RelayFile {
+            rt,
+            log,
+            path,
+            mode,
+            file,
+            is_pipe,
+            is_unread: false,
+        })
+    }
+
+    // Returns the description of the file that is open.
+    pub(crate) fn metadata(&self) -> io::Result<Metadata> {
+        self.file.metadata()
+    }
+
+    // Returns whether the path names the file that is open.
+    fn is_named(&self) -> io::Result<bool> {
+        match fs::symlink_metadata(&self.rt, self.path.as_str()) {
+            Ok(named) => Ok(is_same_file(&named, &self.file.metadata()?)),
+            Err(_) => Ok(false),
+        }
+    }
+
+    // Opens the file of the path again, if that is another one.
+    fn follow_path(&mut self) -> io::Result<()> {
+        if self.is_named()? {
+            return Ok(());
+        }
+        let now = LogTime::now(&self.rt);
+        let path = self.path.as_str();
+        let _ = eprintln!(self.log;
+            "{now} {path}: the relay's file was replaced or removed, and is opened again"
+        );
+        self.file = open_or_create(&self.rt, path, FileAccess::Append, self.mode)?;
+        self.is_pipe = self.file.metadata()?.file_type().is_fifo();
+        self.is_unread = false;
+        Ok(())
+    }
+
+    // Reports that the change before has not been read, once until it is.
+    fn report_unread(&mut self) {
+        let is_unread = self.is_pipe && has_unread(&self.file);
+        if is_unread && !self.is_unread {
+            let now = LogTime::now(&self.rt);
+            let path = self.path.as_str();
+            let _ = eprintln!(self.log; "{now} {path}: nobody has read the last change yet");
+        }
+        self.is_unread = is_unread;
+    }
+}
+
+impl<R: Clock + Files<File = File> + Copy> Write for RelayFile<R> {
+    fn write(&mut self, bytes: &[u8]) -> io::Result<usize> {
+        self.follow_path()?;
+        self.report_unread();
+        self.file.write(bytes)
+    }
+
+    fn flush(&mut self) -> io::Result<()> {
+        self.file.flush()
+    }
+}
