@@ -7,6 +7,7 @@ use Rattle.std.proofs.lemmas.Bool.{false≢true}
 use Rattle.ledger_reports.specs.Answers.{with_answer}
 use Rattle.ledger_reports.specs.declared.answer.StateAnswer.{StateAnswer}
 use Rattle.ledger_reports.specs.declared.line.LedgerLine.{LedgerLine}
+use Rattle.head_end_cli.specs.Ledgered.{HaveAnswers}
 
 -- lines that have their answers at each index
 pub entered : (answers : List StateAnswer) (old new : List LedgerLine) → length new ≡ length old
@@ -21,6 +22,10 @@ entered answers (line ∷ lines) (new ∷ news) same each =
     let rest = entered answers lines news (omega arith)
     (λ i l below. each (suc i) l (omega arith)) in
     rw (first, rest) refl
+
+-- no lines have their answers, which are none
+pub no_lines : HaveAnswers []
+no_lines = record { read = []; answers = []; are = refl }
 
 -- a list that was written to the front of a longer one
 pub written : {T : Type 0} (n : ℕ) (xs ys : List T) → n ≡ length xs → take n (xs ++ ys) ≡ xs

@@ -9,25 +9,41 @@ ghost use Rattle.head_end_commands.specs.Passwords.{HasPasswords};
 ghost use Rattle.ledger_files.specs.Asked.{AreQuestions};
 
 use crate::ledgered::LedgeredCampaign;
+use crate::presence::present_ledger;
 use crate::progress::{CampaignProgress, ProgressWatch};
 use crate::status::{load_answers, read_fault};
 use clap::ArgMatches;
 use head_end::{Connector, Jobs};
-use head_end_commands::plan_jobs;
-use ledger_campaigns::LedgeredPlan;
-use ledger_files::{AskedLedger, ask_with_ledger, read_questions};
-use program::{Fault, print_text};
+use head_end_commands::{plan_jobs, print_output};
+use ledger_campaigns::{LedgeredPlan, questions};
+use ledger_files::{AskedLedger, LedgerPresence, ask_with_ledger, read_questions};
+use program::Fault;
 use sqlite::{FileFrom, Start};
 use sqlite_disk::Disk;
 use sqlite_ledger::LedgerOpenFault;
 use std::io::Write;
 use std::thread::Threads;
 
+// Returns the questions of the ledger at a path, as `load_questions_of` does; an empty file, which
+// no run has begun, has none. Errors: also `Input` for a ledger without its log.
+fn load_questions(rt: &HostRuntime, path: &str) -> Result<Jobs, Fault>
+    ensures { IfOk result AreQuestions }
+{
+    match present_ledger(rt, path) {
+        Ok(LedgerPresence::Empty) => match questions(rt.alloc(), &[]) {
+            Ok(jobs) => Ok(jobs),
+            Err(_) => Err(Fault::Memory),
+        },
+        Ok(_) => load_questions_of(rt, path),
+        Err(fault) => Err(read_fault(fault)),
+    }
+}
+
 // Returns the questions of the ledger at a path, after a test that answers can be added to the file
 // next to it. If one of the files can't be read, writes a line on standard error. Errors: `Input`
 // if one of them is something else; `Read` if the ledger is missing, or one of them can't be read
 // or is open in another process; `Memory`.
-fn load_questions(rt: &HostRuntime, path: &str) -> Result<Jobs, Fault>
+fn load_questions_of(rt: &HostRuntime, path: &str) -> Result<Jobs, Fault>
     ensures { IfOk result AreQuestions }
 {
     match read_questions(rt, path) {
@@ -70,7 +86,7 @@ fn print_answers<W: Write>(
     ensures { OnOk result (PrintsAsked asked (W.contents output.old) (W.contents output.new)) }
 {
     let AskedLedger { text, recorded } = asked;
-    let printed = print_text(output, text.as_slice());
+    let printed = print_output(rt, output, text.as_slice());
     match recorded {
         Ok(()) => printed,
         Err(fault) => Err(record_fault(rt, fault)),

@@ -4,8 +4,8 @@ ghost use Rattle.head_end_cli.specs.Printed.{PrintsReport};
 
 use crate::progress::{CampaignProgress, ProgressWatch};
 use head_end::{Connector, places_for, report_jobs};
-use head_end_commands::CampaignPlan;
-use program::{Fault, print_text};
+use head_end_commands::{CampaignPlan, print_output};
+use program::Fault;
 use std::io::Write;
 use std::thread::Threads;
 
@@ -40,7 +40,7 @@ pub(crate) fn run<R: Threads + Sync, C: Connector, W: Write>(
     );
     drop(places);
     match report {
-        Ok(text) => print_text(output, text.as_slice()),
+        Ok(text) => print_output(rt, output, text.as_slice()),
         Err(_) => Err(Fault::Memory),
     }
 }

@@ -9,10 +9,11 @@ ghost use Rattle.head_end_commands.specs.Lists.{AreJobsOf};
 ghost use Rattle.head_end_commands.specs.Options.{AreLimits, AreWorkers};
 ghost use Rattle.head_end_commands.specs.Passwords.{HasPasswords};
 
+use crate::presence::prepare_ledger;
 use crate::progress::{CampaignProgress, ProgressWatch};
 use clap::ArgMatches;
 use head_end::Connector;
-use head_end_commands::{CampaignPlan, plan_campaign};
+use head_end_commands::{CampaignPlan, plan_campaign, print_output};
 use ledger_campaigns::{LedgerTexts, LedgeredPlan};
 use ledger_files::{LedgerEnd, LedgerReport, run_with_ledger};
 use program::{Fault, print_text};
@@ -41,7 +42,7 @@ pub(crate) struct LedgeredCampaign {
 }
 
 // Validates the options and reads the jobs of the list in an input, and then the passwords of the
-// jobs. If `--verbose` is given, a line on standard error describes the fault.
+// jobs. A line on standard error describes the fault.
 pub(crate) fn plan_ledgered<I: Read + Drop>(
     rt: &HostRuntime,
     matches: &ArgMatches<'_>,
@@ -69,10 +70,32 @@ pub(crate) fn plan_ledgered<I: Read + Drop>(
 }
 
 // Runs the jobs with permits of the ledger, where `S` stands for what the file holds, and prints
+// the report. A missing ledger is made first. Errors: those of `run_on_ledger`, and `Input` for a
+// ledger without its log.
+pub(crate) fn run_ledgered<S: Start + Send, R: Threads + Wait + Sync, C: Connector, W: Write>(
+    rt: &HostRuntime,
+    threads: &R,
+    connector: &C,
+    plan: &LedgeredCampaign,
+    start: S,
+    output: &mut W,
+) -> Result<(), Fault>
+    ensures { OnOk result (PrintsRun ⟦<FileFrom<S> as Disk>⟧ (image_at S.Start)
+        (C.tells connector.now) plan.now.campaign.jobs plan.now.campaign.passwords
+        (W.contents output.old)
+        (W.contents output.new)) }
+{
+    match prepare_ledger(rt, plan.path.as_str(), plan.campaign.jobs.as_slice()) {
+        Ok(()) => run_on_ledger(rt, threads, connector, plan, start, output),
+        Err(fault) => Err(open_fault(fault)),
+    }
+}
+
+// Runs the jobs with permits of the ledger, where `S` stands for what the file holds, and prints
 // the report. Writes a line on standard error for each job whose outcome is unknown, and if the
 // ledger cannot be opened. Errors: `Input` for the ledger of another list, `Write` if the ledger
 // failed, `Memory`.
-pub(crate) fn run_on_ledger<S: Start + Send, R: Threads + Wait + Sync, C: Connector, W: Write>(
+fn run_on_ledger<S: Start + Send, R: Threads + Wait + Sync, C: Connector, W: Write>(
     rt: &HostRuntime,
     threads: &R,
     connector: &C,
@@ -141,7 +164,7 @@ fn print_texts<W: Write>(rt: &HostRuntime, texts: LedgerTexts, output: &mut W) -
     ensures { OnOk result (Appends (W.contents output.old) (W.contents output.new) texts.text) }
 {
     let _ = print_text(&mut rt.stderr(), texts.notes.as_slice());
-    print_text(output, texts.text.as_slice())
+    print_output(rt, output, texts.text.as_slice())
 }
 
 // Returns the program's fault if a ledger is not opened.

@@ -10,11 +10,13 @@
 mod asking;
 mod campaign;
 mod ledgered;
+mod presence;
+mod private_copy;
 mod progress;
 mod status;
 
 use crate::asking::{ask, plan_asking};
-use crate::ledgered::{LedgeredCampaign, plan_ledgered, run_on_ledger};
+use crate::ledgered::{LedgeredCampaign, plan_ledgered, run_ledgered};
 use crate::status::print_status;
 use clap::ArgMatches;
 use head_end::TcpConnector;
@@ -102,7 +104,7 @@ fn main(rt: HostRuntime) -> ExitCode {
         Ok(HeadEndCommand::Ledgered(plan)) => {
             let connector = TcpConnector::new(rt, plan.campaign.limits);
             let output = &mut rt.stdout();
-            let done = run_on_ledger(&rt, &rt, &connector, &plan, Unknown, output);
+            let done = run_ledgered(&rt, &rt, &connector, &plan, Unknown, output);
             exit_code(&rt, done.map(|_| 0))
         }
         Ok(HeadEndCommand::Asking(plan)) => {

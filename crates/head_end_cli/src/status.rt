@@ -4,11 +4,14 @@ ghost use Rattle.clap.specs.Matches.{found_of};
 ghost use Rattle.head_end_cli.specs.Ledgered.{HaveAnswers, PrintsStatus};
 ghost use Rattle.ledger_reports.specs.Answers.{with_answer};
 
+use crate::presence::present_ledger;
+use crate::private_copy::{copy_ledger, is_read_only};
 use clap::ArgMatches;
-use ledger_files::{read_answers_of, read_ledger};
+use head_end_commands::print_output;
+use ledger_files::{LedgerPresence, read_answers_of, read_ledger};
 use ledger_records::{LedgerFormat, ledger_text};
 use ledger_reports::{LedgerLine, StateAnswer, enter_answers};
-use program::{Fault, print_text};
+use program::Fault;
 use sqlite_ledger::LedgerOpenFault;
 use std::io::Write;
 
@@ -30,7 +33,7 @@ pub(crate) fn print_status<W: Write>(
             let text = ledger_text(rt.alloc(), format, lines.as_slice());
             drop(lines);
             match text {
-                Ok(text) => print_text(output, text.as_slice()),
+                Ok(text) => print_output(rt, output, text.as_slice()),
                 Err(_) => Err(Fault::Memory),
             }
         }
@@ -38,9 +41,41 @@ pub(crate) fn print_status<W: Write>(
     }
 }
 
+// Returns the lines of the ledger at a path, as `read_lines` does; an empty file, which no run has
+// begun, has none. If one of the files can't be read, writes a line on standard error.
+#[tactic(auto, using(crate::proofs::Entered::no_lines))]
+fn load_lines(rt: &HostRuntime, path: &str) -> Result<Vec<LedgerLine>, Fault>
+    ensures { IfOk result (λ lines. HaveAnswers lines.items) }
+{
+    match present_ledger(rt, path) {
+        Ok(LedgerPresence::Empty) => Ok(Vec::new(rt.alloc())),
+        Ok(_) if is_read_only(rt, path) => read_copied_lines(rt, path),
+        Ok(_) => read_lines(rt, path),
+        Err(fault) => Err(read_fault(fault)),
+    }
+}
+
+// Returns the lines of a ledger that may only be read, as `read_lines` does: those of a copy, which
+// is then removed. Nothing is written next to the ledger.
+fn read_copied_lines(rt: &HostRuntime, path: &str) -> Result<Vec<LedgerLine>, Fault>
+    ensures { IfOk result (λ lines. HaveAnswers lines.items) }
+{
+    match copy_ledger(rt, path) {
+        Ok(copy) => {
+            let lines = read_lines(rt, copy.path.as_str());
+            drop(copy);
+            lines
+        }
+        Err(error) => {
+            let _ = eprintln!(rt; "{path}: the ledger may only be read, and not copied: {error}");
+            Err(Fault::Read)
+        }
+    }
+}
+
 // Returns the lines of the ledger at a path, each with its answer in the file next to it. If one of
 // the files can't be read, writes a line on standard error.
-fn load_lines(rt: &HostRuntime, path: &str) -> Result<Vec<LedgerLine>, Fault>
+fn read_lines(rt: &HostRuntime, path: &str) -> Result<Vec<LedgerLine>, Fault>
     ensures { IfOk result (λ lines. HaveAnswers lines.items) }
 {
     match read_ledger(rt, path) {

@@ -8,8 +8,8 @@ use std::alloc::{AllocError, Global};
 // The end of `--help`.
 static LIMITS_AND_STATUSES: &str = "\
 Limits: a list has at most 1,000 jobs and 1,048,576 bytes.
-A fault is the line `fault: WORD` on standard error. \
-With --verbose, a line before it says what was expected and what was found.
+A fault is the line `fault: WORD` on standard error; \
+a line before it says what was expected and what was found.
 Exit status: 0 success, whatever the rows of the report say; \
 2 the command line or the input is wrong; 3 reading or writing failed; 4 out of memory.
 Example: echo m1 127.0.0.1:4059 state | head_end check";

@@ -11,9 +11,11 @@ mod messages;
 mod options;
 mod passwords;
 mod plan;
+mod printing;
 mod text_filter;
 mod warnings;
 
 pub use arguments::command_line;
 pub use listing::check;
 pub use plan::{CampaignPlan, plan_campaign, plan_jobs};
+pub use printing::print_output;

@@ -7,19 +7,20 @@ ghost use Rattle.head_end_commands.specs.Lists.{AreJobsOf, HasNoList, IsTextOf};
 
 use crate::findings::report_findings;
 use crate::messages::{ListFault, input_fault, jobs_fault};
+use crate::printing::print_output;
 use crate::warnings::warn;
 use counted_io::{Counted, read_to_end_within};
 use head_end::{Jobs, JobsFault, count_jobs, read_jobs};
-use program::{Fault, print_text};
+use program::Fault;
 use std::io::{Read, Write};
 
 // The maximum number of bytes of a list of jobs.
 const MAX_INPUT: usize = 1_048_576;
 
-// Reads the whole text of an input. On an error, if `is_verbose`, writes a line on standard error
-// that says where and why.
+// Reads the whole text of an input. On an error, writes a line on standard error that says where
+// and why.
 #[tactic(auto, using(crate::proofs::Inputs::whole_text, crate::proofs::Inputs::too_long, crate::proofs::Inputs::input_kind))]
-fn text_of<I: Read + Drop>(rt: &HostRuntime, input: I, is_verbose: bool) -> Result<Vec<u8>, Fault>
+fn text_of<I: Read + Drop>(rt: &HostRuntime, input: I) -> Result<Vec<u8>, Fault>
     ensures text { IfOk result (λ text. IsTextOf (I.remaining input) text.items) }
     ensures err { IfErr result (λ fault. fault ≡ Fault.Input → HasNoList (I.remaining input)) }
     ensures kind { IfErr result (λ fault. is_of_files fault ≡ true) }
@@ -28,44 +29,36 @@ fn text_of<I: Read + Drop>(rt: &HostRuntime, input: I, is_verbose: bool) -> Resu
     match read_to_end_within(rt.alloc(), &mut reader, MAX_INPUT) {
         Ok(text) => Ok(text),
         Err(fault) => {
-            if is_verbose {
-                let _ = eprintln!(rt; "{}", ListFault::from_input(fault));
-            }
+            let _ = eprintln!(rt; "{}", ListFault::from_input(fault));
             Err(input_fault(fault))
         }
     }
 }
 
-// Returns the fault of a text that is not a list of jobs. If `is_verbose`, writes a line on
-// standard error that says where and why.
-fn report_list_fault(rt: &HostRuntime, text: &[u8], fault: JobsFault, is_verbose: bool) -> Fault
+// Returns the fault of a text that is not a list of jobs, and writes a line on standard error that
+// says where and why.
+fn report_list_fault(rt: &HostRuntime, text: &[u8], fault: JobsFault) -> Fault
     ensures { result ≡ jobs_fault fault }
 {
-    if is_verbose {
-        let _ = eprintln!(rt; "{}", ListFault::from_jobs(text, fault));
-    }
+    let _ = eprintln!(rt; "{}", ListFault::from_jobs(text, fault));
     jobs_fault(fault)
 }
 
 // Reads the jobs of the list in an input, and writes the warnings about them. Errors: `Input` if it
 // is no list of jobs, `Read`, `Memory`.
 #[tactic(auto, using(crate::proofs::Inputs::no_list, crate::proofs::Inputs::jobs_kind))]
-pub(crate) fn load_jobs<I: Read + Drop>(
-    rt: &HostRuntime,
-    input: I,
-    is_verbose: bool,
-) -> Result<Jobs, Fault>
+pub(crate) fn load_jobs<I: Read + Drop>(rt: &HostRuntime, input: I) -> Result<Jobs, Fault>
     ensures jobs { IfOk result (AreJobsOf (I.remaining input)) }
     ensures err { IfErr result (λ fault. fault ≡ Fault.Input → HasNoList (I.remaining input)) }
     ensures kind { IfErr result (λ fault. is_of_files fault ≡ true) }
 {
-    let text = text_of(rt, input, is_verbose)?;
+    let text = text_of(rt, input)?;
     match read_jobs(rt.alloc(), text.as_slice()) {
         Ok(jobs) => {
             warn(rt, text.as_slice(), &jobs);
             Ok(jobs)
         }
-        Err(fault) => Err(report_list_fault(rt, text.as_slice(), fault, is_verbose)),
+        Err(fault) => Err(report_list_fault(rt, text.as_slice(), fault)),
     }
 }
 
@@ -77,8 +70,8 @@ fn warn_of_text(rt: &HostRuntime, text: &[u8]) {
     }
 }
 
-// Returns the fault of a text that `check` read and that is not a list of jobs. If `is_verbose`,
-// writes all findings in its lines on standard error.
+// Returns the fault of a text that `check` read and that is not a list of jobs. Writes a line on
+// standard error or, if `is_verbose`, all findings in its lines.
 fn report_check_fault(rt: &HostRuntime, text: &[u8], fault: JobsFault, is_verbose: bool) -> Fault
     ensures { result ≡ jobs_fault fault }
 {
@@ -86,7 +79,7 @@ fn report_check_fault(rt: &HostRuntime, text: &[u8], fault: JobsFault, is_verbos
         report_findings(rt, text);
         return jobs_fault(fault);
     }
-    report_list_fault(rt, text, fault, is_verbose)
+    report_list_fault(rt, text, fault)
 }
 
 /// Runs `check`: prints the number of jobs of the list in an input, and writes the warnings about
@@ -104,10 +97,10 @@ pub fn check<I: Read + Drop, W: Write>(
         (W.contents output.new)) }
     ensures err { IfErr result (λ fault. fault ≡ Fault.Input → HasNoList (I.remaining input)) }
 {
-    let text = text_of(rt, input, is_verbose)?;
+    let text = text_of(rt, input)?;
     warn_of_text(rt, text.as_slice());
     match count_jobs(rt.alloc(), text.as_slice()) {
-        Ok(line) => print_text(output, line.as_slice()),
+        Ok(line) => print_output(rt, output, line.as_slice()),
         Err(fault) => Err(report_check_fault(rt, text.as_slice(), fault, is_verbose)),
     }
 }

@@ -99,15 +99,15 @@ fn parse_password(alloc: Global, text: &str) -> Result<Octets, Fault>
     }
 }
 
-// Returns the bytes of a password. If they are not 1 to 32 and `is_verbose`, writes a line on
-// standard error that reports it.
-fn check_password(rt: &HostRuntime, text: &str, is_verbose: bool) -> Result<Octets, Fault>
+// Returns the bytes of a password. If they are not 1 to 32, writes a line on standard error that
+// reports it.
+fn check_password(rt: &HostRuntime, text: &str) -> Result<Octets, Fault>
     ensures sized { IfOk result IsPassword }
     ensures bytes { IfOk result (λ password. password ≡ text.now) }
     ensures err { IfErr result (IsPasswordFault text.now) }
 {
     let password = parse_password(rt.alloc(), text);
-    if is_verbose && matches!(password, Err(Fault::Input)) {
+    if matches!(password, Err(Fault::Input)) {
         let _ = eprintln!(rt; "password: must be 1 to 32 bytes");
     }
     password
@@ -117,55 +117,44 @@ fn check_password(rt: &HostRuntime, text: &str, is_verbose: bool) -> Result<Octe
 // `Read` if the file cannot be read; `Input` if it has no password, or if the environment's is not
 // UTF-8; `Memory`.
 #[tactic(auto, using(crate::proofs::Stored::stored_variable))]
-fn stored_password(
-    rt: &HostRuntime,
-    matches: &ArgMatches<'_>,
-    is_verbose: bool,
-) -> Result<Option<String>, Fault>
+fn stored_password(rt: &HostRuntime, matches: &ArgMatches<'_>) -> Result<Option<String>, Fault>
     ensures { IsStored (found_of matches.now) (stored_bytes result) }
 {
     match matches.get_str("password-file") {
         Some(path) => Ok(Some(read_password_file(rt, path)?)),
-        None => environment_password(rt, is_verbose),
+        None => environment_password(rt),
     }
 }
 
 // Returns the bytes of a stored password, by how it was read, or `None` if there is none. Errors:
 // that of the read; `Input` if the password does not have 1 to 32 bytes, with a line on standard
-// error if `is_verbose`; `Memory`.
+// error; `Memory`.
 fn check_stored(
     rt: &HostRuntime,
     stored: Result<Option<String>, Fault>,
-    is_verbose: bool,
 ) -> Result<Option<Octets>, Fault>
     ensures bytes { IfOk result (λ common. stored_bytes stored ≡ Ok common) }
     ensures sized { IfOk result (λ common. IfSome common IsPassword) }
     ensures err { IfErr result (IsStoredFault (stored_bytes stored)) }
 {
     match stored {
-        Ok(Some(text)) => Ok(Some(check_password(rt, text.as_str(), is_verbose)?)),
+        Ok(Some(text)) => Ok(Some(check_password(rt, text.as_str())?)),
         Ok(None) => Ok(None),
         Err(fault) => Err(fault),
     }
 }
 
 // Returns the common password: that of the command line, else that of the file that it names, else
-// that of the environment, or `None` without one. Errors: those of a file without a password, with
-// a line on standard error; `Input` if the password does not have 1 to 32 bytes, with a line if
-// `is_verbose`; `Memory`.
-fn common_password(
-    rt: &HostRuntime,
-    matches: &ArgMatches<'_>,
-    is_verbose: bool,
-) -> Result<Option<Octets>, Fault>
+// that of the environment, or `None` without one. Errors: those of a file without a password, and
+// `Input` if the password does not have 1 to 32 bytes, with a line on standard error; `Memory`.
+fn common_password(rt: &HostRuntime, matches: &ArgMatches<'_>) -> Result<Option<Octets>, Fault>
     ensures common { IfOk result (IsCommonPassword (found_of matches.now)) }
     ensures err { IfErr result (IsCommonFault (found_of matches.now)) }
 {
     if let Some(text) = matches.get_str("password") {
-        return Ok(Some(check_password(rt, text, is_verbose)?));
+        return Ok(Some(check_password(rt, text)?));
     }
-    let stored = stored_password(rt, matches, is_verbose);
-    check_stored(rt, stored, is_verbose)
+    check_stored(rt, stored_password(rt, matches))
 }
 
 // Returns the password of each job.
@@ -224,8 +213,7 @@ fn plan_with(
 /// read; `Input` if it has no password, if the environment's is not UTF-8, or if the password does
 /// not have 1 to 32 bytes; `Memory`. Then those of the file of `--passwords`: `Read` if it cannot
 /// be read; `Input` if it is not a list of passwords, or if a job has no password; `Memory`. A line
-/// on standard error describes the fault of a file or of a job and, if `--verbose` is given, of
-/// another password.
+/// on standard error describes each fault but `Memory`.
 pub fn plan_jobs(
     rt: &HostRuntime,
     matches: &ArgMatches<'_>,
@@ -238,7 +226,7 @@ pub fn plan_jobs(
         plan.passwords) }
     ensures err { IfErr result (IsPlanFault (found_of matches.now)) }
 {
-    match common_password(rt, matches, matches.get_flag("verbose")) {
+    match common_password(rt, matches) {
         Ok(common) => {
             let plan = plan_with(rt, matches, jobs, &common);
             drop(common);
@@ -252,8 +240,7 @@ pub fn plan_jobs(
 }
 
 /// Validates the options and reads the jobs of the list in an input, and then the passwords of the
-/// jobs. Writes the warnings about the jobs on standard error. If `--verbose` is given, a line
-/// there describes the fault.
+/// jobs. Writes the warnings about the jobs on standard error. A line there describes the fault.
 ///
 /// Errors: first those of the common password, then those of the list of jobs (`Input` if it is not
 /// one, `Read`, `Memory`), then those of the file of `--passwords`; [`plan_jobs`] lists the first
@@ -270,9 +257,8 @@ pub fn plan_campaign<I: Read + Drop>(
         plan.passwords) }
     ensures err { IfErr result (IsCampaignFault (found_of matches.now) (I.remaining input)) }
 {
-    let is_verbose = matches.get_flag("verbose");
-    let common = common_password(rt, matches, is_verbose)?;
-    let jobs = load_jobs(rt, input, is_verbose)?;
+    let common = common_password(rt, matches)?;
+    let jobs = load_jobs(rt, input)?;
     let planned = plan_with(rt, matches, jobs, &common);
     drop(common);
     planned

@@ -10,6 +10,7 @@ mod connected;
 mod disks;
 mod end;
 mod laws;
+mod presence;
 mod reading;
 mod runs;
 
@@ -27,6 +28,7 @@ use client_core::Job;
 use disks::open_on_disk;
 pub use end::LedgerEnd;
 pub use laws::the_next_run_finds_what_was_left;
+pub use presence::{LedgerPresence, find_ledger, make_ledger};
 pub use reading::{read_ledger, read_ledger_from};
 pub use runs::{LedgerReport, run_with_ledger};
 use sqlite::{Connection, FileFrom, FileStore, Start};
