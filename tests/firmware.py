@@ -7,10 +7,12 @@ ones, and random sessions. Both must answer the same, and the trace that C expor
 replies in the answers. Then each call of the heap is refused in turn. The super-loop runs with the
 pool, also on 64-bit ARM without a C library (Debian: apt-get install gcc-aarch64-linux-gnu
 qemu-user) and with valgrind; a test whose tool is missing is skipped with a message. A meter whose
-state is in simulated flash has its power cut wherever it writes.
+state is in simulated flash has its power cut wherever it writes. Slots without a meter have it cut
+at random, with unstable bits and with calls that fail; this needs only a C compiler.
 
-usage: tests/firmware.py [--long]     (--long: every refused call, 1,000 sessions instead of 200, and
-                                       50 times the pairs of power cuts)"""
+usage: tests/firmware.py [--long] [--slots]
+    --long     every refused call, 1,000 sessions instead of 200, and 50 times the random power cuts
+    --slots    only the slots without a meter, which need no built library"""
 
 import argparse
 import collections
@@ -52,7 +54,9 @@ LOOP = """0.0 s: state 1
 18.0 s: state 1, supply on
 frames sent: 8
 """.split("\n", 1)[1]
-STORED = [EXAMPLES / "stored_meter.c", EXAMPLES / "slots.c", EXAMPLES / "flash_simulated.c", HEAPS / "heap_pool.c"]
+SLOTS = [EXAMPLES / "slots.c", EXAMPLES / "flash_simulated.c"]
+SLOT_MODELS = ("bytes", "units", "unstable", "failing", "reads")
+STORED = [EXAMPLES / "stored_meter.c", *SLOTS, HEAPS / "heap_pool.c"]
 RING = ["-DFLASH_SLOTS=5", "-DFLASH_UNIT=256"]
 NEW_LIMITER = ["normal 4294967295", "emergency 4294967295", "minover 0", "minunder 0", "profile 0 FFFFFFFFFFFFFFFFFF8000FF 0", "groups", "actions 0 0", "over 0 0", "under 0 0"]
 PC_TARGET, ARM_TARGET = "x86_64-unknown-linux-gnu", "aarch64-unknown-linux-gnu"
@@ -291,22 +295,39 @@ def texts_in(image, slots, size, unit):
     for slot in range(slots):
         header, rest = image[slot * size:slot * size + 16], image[slot * size + unit:(slot + 1) * size]
         word, sequence, length, checksum = struct.unpack("<4sIII", header)
-        assert word == b"MSL1" and zlib.crc32(header[:12] + rest[:length]) == checksum and set(rest[length:]) == {0xFF}, (slot, header)
+        assert word == b"MSL1" and zlib.crc32(header[:12] + rest[:length]) == checksum, (slot, header)
+        assert set(rest[length:-unit]) == {0xFF} and set(rest[-unit:]) == {0}, slot
         texts[sequence] = rest[:length]
     return texts
 
 
+def slots_lose_no_text(name):
+    """Writes of texts to slots that are cut at random, in each model of the simulated flash. With
+    two slots, a text can be lost only if interrupted bits are unstable, so those models are not
+    run."""
+    runs = 200_000 if is_long else 4_000
+    for slots, models in ((2, ("bytes", "units", "failing", "reads")), (3, SLOT_MODELS), (5, SLOT_MODELS)):
+        built = program(f"slot_cuts_{slots}", TOOLS / "slot_cuts.c", *SLOTS, words=[f"-DFLASH_SLOTS={slots}", "-DFLASH_SLOT_BYTES=512"])
+        for model in models:
+            ran = subprocess.run([str(built), model, str(runs)], capture_output=True, text=True)
+            print(ran.stdout.strip())
+            check(f"{name}: {slots} slots, {model}", ran.returncode == 0 and f"good {runs}," in ran.stdout, ran)
+
+
 def a_power_cut_loses_nothing_that_was_answered(name):
-    """Each write of a run is cut, in each manner; then pairs of writes are."""
+    """Each write of a run is cut, in each manner; then pairs of writes are, also with unstable
+    bits."""
     pairs = 50_000 if is_long else 1_000
-    print("two slots:", *run_checked(place / "power_cuts", "single").splitlines(), sep="\n  ")
+    print("three slots:", *run_checked(place / "power_cuts", "single").splitlines(), sep="\n  ")
     print("five slots:", *run_checked(place / "power_cuts_ring", "single", 1 if is_long else 29).splitlines()[1:], sep="\n  ")
-    for built in ("power_cuts", "power_cuts_ring"):
+    for built in ("power_cuts", "power_cuts_two", "power_cuts_ring"):
         check(f"{name}: pairs, {built}", "runs with two cuts" in run_checked(place / built, "double", pairs))
+    for built in ("power_cuts", "power_cuts_ring"):
+        check(f"{name}: unstable bits, {built}", "runs with two cuts" in run_checked(place / built, "unstable", pairs))
 
 
 def damaged_slots_have_a_defined_result(name):
-    for built in ("power_cuts", "power_cuts_ring"):
+    for built in ("power_cuts", "power_cuts_two", "power_cuts_ring"):
         ran = run_checked(place / built, "damage")
         check(f"{name}: {built}", ran.endswith("all results of damaged slots are as defined\n"), ran)
 
@@ -319,7 +340,7 @@ def the_slots_have_the_described_layout(name):
     limits = ["normal 5000", "emergency 4294967295", "minover 2", "minunder 0", "profile 0 FFFFFFFFFFFFFFFFFF8000FF 0", "groups", "actions 1 0"]
     before = state_text("state 1", "mode 1", "value 6000", "now 2000", *limits, "over 0 0", "under 0 0", scripts=script)
     after = state_text("state 1", "mode 1", "value 3000", "now 2000", *limits, "over 0 0", "under 10 1", scripts=script)
-    for built, slots, unit in (("power_cuts", 2, 16), ("power_cuts_ring", 5, 256)):
+    for built, slots, unit in (("power_cuts", 3, 16), ("power_cuts_ring", 5, 256)):
         image = subprocess.run([str(place / built), "image"], capture_output=True, check=True, timeout=60).stdout
         texts = texts_in(image, slots, 16384, unit)
         newest = max(texts)
@@ -391,21 +412,33 @@ def power_cuts_lose_nothing_on_arm(name):
                                                        499))
 
 
+def summary():
+    """Prints the numbers of checks; returns the exit status."""
+    print(f"{serving.passed} passed, {serving.failed} failed")
+    return 1 if serving.failed else 0
+
+
 def main():
     global place, is_long
     parser = argparse.ArgumentParser()
-    parser.add_argument("--long", action="store_true", help="every refused call, 1,000 sessions instead of 200, and 50 times the pairs of power cuts")
-    is_long = parser.parse_args().long
+    parser.add_argument("--long", action="store_true", help="every refused call, 1,000 sessions instead of 200, and 50 times the random power cuts")
+    parser.add_argument("--slots", action="store_true", help="only the slots without a meter, which need no built library")
+    words = parser.parse_args()
+    is_long = words.long
     if not shutil.which("cc"):
         print("SKIPPED: no C compiler is installed (no command cc)\n0 passed, 0 failed")
         return 0
     with tempfile.TemporaryDirectory() as folder:
         place = pathlib.Path(folder)
+        test(slots_lose_no_text)
+        if words.slots:
+            return summary()
         archive = archives()[PC_TARGET]
         program("session", EXAMPLES / "session.c", HEAPS / "heap_malloc.c", archive)
         program("refused", EXAMPLES / "session.c", TOOLS / "refusing_heap.c", archive)
         program("super_loop", EXAMPLES / "super_loop.c", EXAMPLES / "platform_hosted.c", HEAPS / "heap_pool.c", archive)
         program("power_cuts", TOOLS / "power_cuts.c", *STORED, archive)
+        program("power_cuts_two", TOOLS / "power_cuts.c", *STORED, archive, words=["-DFLASH_SLOTS=2"])
         program("power_cuts_ring", TOOLS / "power_cuts.c", *STORED, archive, words=RING)
         program("exports_test", TOOLS / "exports_test.c", HEAPS / "heap_malloc.c", archive)
         for one in (the_header_has_the_exports, the_header_has_the_types_of_the_exports, the_header_has_the_numbers_of_the_definitions, each_export_answers,
@@ -413,8 +446,7 @@ def main():
                     a_power_cut_loses_nothing_that_was_answered, damaged_slots_have_a_defined_result, the_slots_have_the_described_layout, the_largest_state_fits_a_slot, valgrind_finds_nothing,
                     the_super_loop_runs_on_arm, power_cuts_lose_nothing_on_arm):
             test(one)
-    print(f"{serving.passed} passed, {serving.failed} failed")
-    return 1 if serving.failed else 0
+    return summary()
 
 
 if __name__ == "__main__":

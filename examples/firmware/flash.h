@@ -14,9 +14,10 @@
 #include <stddef.h>
 #include <stdint.h>
 
-/* The number of slots, at least 2. */
+/* The number of slots, at least 2. With 2, cuts at several starts in a row can lose the text if the
+ * bits that they interrupt are unstable (docs/FIRMWARE.md, "Two slots"). */
 #ifndef FLASH_SLOTS
-#define FLASH_SLOTS 2
+#define FLASH_SLOTS 3
 #endif
 
 /* The bytes of a slot: whole erase blocks. stored_meter.h says how many a meter needs. */
@@ -30,13 +31,17 @@
 #define FLASH_UNIT 16
 #endif
 
-/* Erases a slot. */
+/* Erases a slot. Returns false if the slot may not be blank. */
 bool flash_erase(unsigned slot);
 
-/* Programs `count` bytes of a slot from the byte `at`, both multiples of FLASH_UNIT. */
+/* Programs `count` bytes of a slot from the byte `at`, both multiples of FLASH_UNIT. Returns false
+ * if a byte may not be programmed. */
 bool flash_program(unsigned slot, size_t at, const uint8_t *bytes, size_t count);
 
-/* Reads `count` bytes of a slot from the byte `at`. */
+/* Reads `count` bytes of a slot from the byte `at`. Returns false only if the same call can succeed
+ * later, for example if the bus failed. A power cut can leave a unit that error correction finds
+ * damaged at each read: then return true, with bytes that are not FF. The checksum rejects them,
+ * while false would stop each start. */
 bool flash_read(unsigned slot, size_t at, uint8_t *bytes, size_t count);
 
 #endif

@@ -8,12 +8,22 @@
 _Static_assert(FLASH_SLOTS >= 2, "a text needs two slots");
 _Static_assert(FLASH_UNIT >= HEADER_BYTES, "the header is one unit");
 _Static_assert(FLASH_SLOT_BYTES % FLASH_UNIT == 0, "a slot is whole units");
+_Static_assert(FLASH_SLOT_BYTES > 2 * FLASH_UNIT, "a slot has a header, a text and a mark");
+
+/* Where the mark is: the last unit of a slot. */
+#define MARK_AT (FLASH_SLOT_BYTES - FLASH_UNIT)
 
 struct header {
     uint32_t sequence;
     uint32_t length;
     uint32_t crc;
 };
+
+/* The answer to a question about a slot: none if a read failed, since the bytes may be right. */
+enum answer { NO, YES, UNREAD };
+
+/* What a slot holds. Of two whole slots a marked one is preferred, hence the order. */
+enum content { CONTENT_UNREAD, CONTENT_BLANK, CONTENT_TORN, CONTENT_WHOLE, CONTENT_MARKED };
 
 /* ---- bytes */
 
@@ -60,63 +70,76 @@ static size_t least(size_t one, size_t other)
 
 /* ---- one slot */
 
-/* Reads the header of a slot. Returns false if it is not a header. */
-static bool read_header(unsigned slot, struct header *header)
+/* Reads the header of a slot, and answers whether it is one. */
+static enum answer read_header(unsigned slot, struct header *header)
 {
     uint8_t bytes[HEADER_BYTES];
-    if (!flash_read(slot, 0, bytes, sizeof bytes) || number_at(bytes) != FORMAT)
-        return false;
+    if (!flash_read(slot, 0, bytes, sizeof bytes))
+        return UNREAD;
     header->sequence = number_at(bytes + 4);
     header->length = number_at(bytes + 8);
     header->crc = number_at(bytes + 12);
-    return header->length <= SLOTS_TEXT_BYTES;
+    return number_at(bytes) == FORMAT && header->length <= SLOTS_TEXT_BYTES ? YES : NO;
 }
 
 /* Whether a slot has a header, and the checksum of the header and of the text is right. */
-static bool is_whole(unsigned slot, struct header *header)
+static enum answer is_whole(unsigned slot, struct header *header)
 {
     uint8_t chunk[CHUNK];
     uint32_t crc;
-    if (!read_header(slot, header))
-        return false;
+    enum answer answer = read_header(slot, header);
+    if (answer != YES)
+        return answer;
     crc = crc_of_header(header);
     for (size_t at = 0; at < header->length; at += CHUNK) {
         size_t count = least(CHUNK, header->length - at);
         if (!flash_read(slot, FLASH_UNIT + at, chunk, count))
-            return false;
+            return UNREAD;
         crc = slots_crc(crc, chunk, count);
     }
-    return crc == header->crc;
+    return crc == header->crc ? YES : NO;
 }
 
-/* Whether all bytes of a slot are FF. */
-static bool is_blank(unsigned slot)
+/* Whether all bytes of a slot from `at` to its end are `byte`. */
+static enum answer is_filled(unsigned slot, size_t at, uint8_t byte)
 {
     uint8_t chunk[CHUNK];
-    for (size_t at = 0; at < FLASH_SLOT_BYTES; at += CHUNK) {
+    for (; at < FLASH_SLOT_BYTES; at += CHUNK) {
         size_t count = least(CHUNK, FLASH_SLOT_BYTES - at);
         if (!flash_read(slot, at, chunk, count))
-            return false;
+            return UNREAD;
         for (size_t i = 0; i < count; i++)
-            if (chunk[i] != 0xFF)
-                return false;
+            if (chunk[i] != byte)
+                return NO;
     }
-    return true;
+    return YES;
 }
 
 /* Whether a slot's text is this one, byte by byte. */
-static bool has_text(unsigned slot, const uint8_t *text, size_t length)
+static enum answer has_text(unsigned slot, const uint8_t *text, size_t length)
 {
     uint8_t chunk[CHUNK];
     for (size_t at = 0; at < length; at += CHUNK) {
         size_t count = least(CHUNK, length - at);
         if (!flash_read(slot, FLASH_UNIT + at, chunk, count))
-            return false;
+            return UNREAD;
         for (size_t i = 0; i < count; i++)
             if (chunk[i] != text[at + i])
-                return false;
+                return NO;
     }
-    return true;
+    return YES;
+}
+
+/* What a slot holds; of a whole one also its header. Any programmed bit of a mark is a mark. */
+static enum content content_of(unsigned slot, struct header *header)
+{
+    enum answer whole = is_whole(slot, header);
+    enum answer blank = is_filled(slot, whole == YES ? MARK_AT : 0, 0xFF);
+    if (whole == UNREAD || blank == UNREAD)
+        return CONTENT_UNREAD;
+    if (whole == YES)
+        return blank == YES ? CONTENT_WHOLE : CONTENT_MARKED;
+    return blank == YES ? CONTENT_BLANK : CONTENT_TORN;
 }
 
 /* Programs the text, whose last unit is filled up with FF. */
@@ -145,6 +168,22 @@ static bool program_header(unsigned slot, const struct header *header)
     return flash_program(slot, 0, bytes, sizeof bytes);
 }
 
+/* Programs the mark. Any program of its bits begins after the text and header were read back. */
+static bool program_mark(unsigned slot)
+{
+    static const uint8_t bytes[FLASH_UNIT];
+    return flash_program(slot, MARK_AT, bytes, sizeof bytes) && is_filled(slot, MARK_AT, 0) == YES;
+}
+
+/* Programs text and header of an erased slot, reads them back, and marks the slot. */
+static bool program_slot(unsigned slot, const struct header *header, const uint8_t *text)
+{
+    struct header read;
+    return program_text(slot, text, header->length) && program_header(slot, header)
+        && is_whole(slot, &read) == YES && read.sequence == header->sequence
+        && has_text(slot, text, header->length) == YES && program_mark(slot);
+}
+
 /* ---- all slots */
 
 /* The slot after this one, but never the newest. */
@@ -156,45 +195,59 @@ static unsigned slot_after(const struct slots *slots, unsigned slot)
 
 enum slots_found slots_find(struct slots *slots)
 {
+    const struct slots none = { .newest = FLASH_SLOTS, .next = FLASH_SLOTS };
+    struct slots found = none;
+    enum content best = CONTENT_TORN;
+    uint32_t newest = 0;
     bool is_empty = true;
-    *slots = (struct slots){ .newest = FLASH_SLOTS };
+    *slots = none;
     for (unsigned slot = 0; slot < FLASH_SLOTS; slot++) {
         struct header header;
-        if (is_whole(slot, &header)) {
-            if (slots->whole++ == 0 || header.sequence > slots->sequence) {
-                slots->newest = slot;
-                slots->sequence = header.sequence;
-            }
-        } else if (is_empty) {
-            is_empty = is_blank(slot);
+        enum content content = content_of(slot, &header);
+        if (content == CONTENT_UNREAD)
+            return SLOTS_UNREAD;
+        is_empty = is_empty && content == CONTENT_BLANK;
+        if (content < CONTENT_WHOLE)
+            continue;
+        found.whole++;
+        /* Also the number of a slot without a mark counts: a later start may read a mark there. */
+        if (header.sequence > found.sequence)
+            found.sequence = header.sequence;
+        if (content > best || (content == best && header.sequence > newest)) {
+            best = content;
+            newest = header.sequence;
+            found.newest = slot;
         }
     }
-    if (slots->whole == 0)
-        return is_empty ? SLOTS_EMPTY : SLOTS_DAMAGED;
-    slots->next = slot_after(slots, slots->newest);
-    return SLOTS_FOUND;
+    if (found.whole == 0 && !is_empty)
+        return SLOTS_DAMAGED;
+    found.next = is_empty ? 0 : slot_after(&found, found.newest);
+    *slots = found;
+    return is_empty ? SLOTS_EMPTY : SLOTS_FOUND;
 }
 
 bool slots_read(const struct slots *slots, uint8_t *text, size_t room, size_t *length)
 {
     struct header header;
-    if (slots->newest == FLASH_SLOTS || !read_header(slots->newest, &header) || header.length > room)
+    if (slots->newest == FLASH_SLOTS || read_header(slots->newest, &header) != YES)
         return false;
     *length = header.length;
-    return flash_read(slots->newest, FLASH_UNIT, text, header.length) && slots_crc(crc_of_header(&header), text, header.length) == header.crc;
+    return header.length <= room && flash_read(slots->newest, FLASH_UNIT, text, header.length)
+        && slots_crc(crc_of_header(&header), text, header.length) == header.crc;
 }
 
 bool slots_hold(const struct slots *slots, const uint8_t *text, size_t length)
 {
     struct header header;
-    return slots->newest != FLASH_SLOTS && read_header(slots->newest, &header) && header.length == length && has_text(slots->newest, text, length);
+    return slots->newest != FLASH_SLOTS && read_header(slots->newest, &header) == YES
+        && header.length == length && has_text(slots->newest, text, length) == YES;
 }
 
 bool slots_erase_next(struct slots *slots)
 {
     /* A slot that reads as FF may have been half erased when the power failed: only an erase since
      * then counts. */
-    if (!slots->is_next_erased)
+    if (slots->next != FLASH_SLOTS && !slots->is_next_erased)
         slots->is_next_erased = flash_erase(slots->next);
     return slots->is_next_erased;
 }
@@ -202,16 +255,15 @@ bool slots_erase_next(struct slots *slots)
 bool slots_write(struct slots *slots, const uint8_t *text, size_t length)
 {
     unsigned slot = slots->next;
-    struct header header, read;
+    struct header header;
     bool is_written;
-    if (length > SLOTS_TEXT_BYTES)
+    if (length > SLOTS_TEXT_BYTES || slot == FLASH_SLOTS)
         return false;
     /* Each try has a number of its own: a slot whose write failed may be read as whole later. */
     header.sequence = ++slots->sequence;
     header.length = (uint32_t)length;
     header.crc = slots_crc(crc_of_header(&header), text, length);
-    is_written = slots_erase_next(slots) && program_text(slot, text, length) && program_header(slot, &header)
-        && is_whole(slot, &read) && read.sequence == header.sequence && has_text(slot, text, length);
+    is_written = slots_erase_next(slots) && program_slot(slot, &header, text);
     if (is_written)
         slots->newest = slot;
     slots->next = slot_after(slots, slot);
@@ -224,6 +276,5 @@ bool slots_clear(struct slots *slots)
     bool is_done = true;
     for (unsigned slot = 0; slot < FLASH_SLOTS; slot++)
         is_done = flash_erase(slot) && is_done;
-    slots_find(slots);
-    return is_done;
+    return slots_find(slots) == SLOTS_EMPTY && is_done;
 }

@@ -55,8 +55,8 @@ static enum stored_result resume(struct stored_meter *stored)
     return result_of(meter_resume(&stored->meter, stored->text, length, stored->password, stored->password_length, KEPT_EVENTS));
 }
 
-/* Writes the state to the next slot, whatever the newest one holds: a slot whose last byte was
- * programmed while the power failed may be read well now and badly later. */
+/* Writes the state to the next slot, whatever the newest one holds: a mark that was programmed while
+ * the power failed may be read now and not later. */
 static enum stored_result write_again(struct stored_meter *stored)
 {
     size_t length;
@@ -70,6 +70,8 @@ enum stored_result stored_open(struct stored_meter *stored, const uint8_t *name,
 {
     enum slots_found found = slots_find(&stored->slots);
     enum stored_result result;
+    if (found == SLOTS_UNREAD)
+        return STORED_FLASH_FAILED;
     if (found == SLOTS_DAMAGED)
         return STORED_DAMAGED;
     stored->password = password;

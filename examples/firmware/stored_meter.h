@@ -43,7 +43,7 @@ struct stored_meter {
 };
 
 /* Opens the meter that the slots hold, or a new one if they are empty, and writes its state once
- * more. `name` is that of a new meter; name and password are those of meter_open, and the password
+ * more. If a read fails while it looks for the newest text, it erases and programs nothing. `name` is that of a new meter; name and password are those of meter_open, and the password
  * stays where it is while the meter is open. Unless it returns STORED_OK or STORED_NEW, no meter is
  * open. */
 enum stored_result stored_open(struct stored_meter *stored, const uint8_t *name, size_t name_length, const uint8_t *password, size_t password_length);

@@ -2,7 +2,9 @@
  *
  *     power_cuts single [EVERY]    one cut, at every place of a run (or at every EVERYth)
  *     power_cuts double COUNT      two cuts at COUNT random pairs of places
- *     power_cuts damage            slots that are damaged, worn out or hold no trace; no memory
+ *     power_cuts unstable COUNT    the same, and the bits that a cut interrupted are unstable
+ *     power_cuts damage            slots that are damaged, worn out or hold no trace; calls of the
+ *                                  flash that fail; no memory
  *     power_cuts image             a run without a cut: writes the bytes of all slots
  *     power_cuts largest < TRACE   the sizes of this meter's state and of its longest export
  *
@@ -110,6 +112,7 @@ struct cut {
 
 static struct cut cuts[2];
 static size_t cut_count, cuts_done;
+static bool is_unstable;
 static jmp_buf power;
 
 /* The steps whose effect was seen outside, those that were begun, and whether the meter was open
@@ -308,6 +311,7 @@ static void switch_on(void)
 static bool run(size_t count)
 {
     flash_begin();
+    flash_be_unstable(is_unstable);
     cut_count = count;
     cuts_done = seen = begun = 0;
     was_open = false;
@@ -317,6 +321,7 @@ static bool run(size_t count)
         flash_cut_at(cuts[cuts_done].step, cuts[cuts_done].manner, power_cut);
     else
         flash_cut_at(0, 0, NULL);
+    flash_power_on();
     switch_on();
     associate();
     find_place();
@@ -367,8 +372,7 @@ static void cut_once(unsigned long every)
             need(run(1), "the cut");
             need_last_text();
             runs++;
-            if (flash_was_erasing())
-                manners = CUT_ERASE_MANNERS;
+            manners = flash_manners();
         }
     }
     printf("runs with one cut: %lu\n", runs);
@@ -387,7 +391,7 @@ static void cut_twice(unsigned long count)
 {
     unsigned long places = run_whole(), both = 0;
     for (unsigned long i = 0; i < count; i++) {
-        cuts[0] = (struct cut){ 1 + chance(places), (unsigned)chance(CUT_BYTE_MANNERS) };
+        cuts[0] = (struct cut){ 1 + chance(places), (unsigned)chance(CUT_PROGRAM_MANNERS) };
         cuts[1] = (struct cut){ 1 + chance(i % 2 == 0 ? places : 2 * last_length), (unsigned)chance(CUT_ERASE_MANNERS) };
         both += run(2);
         need_last_text();
@@ -443,6 +447,28 @@ static void flip_bits(unsigned newest)
     printf("changed bits: %zu, each found\n", changed);
 }
 
+/* Erases the mark of a slot. */
+static void remove_mark(unsigned slot)
+{
+    memset(flash_bytes[slot] + FLASH_SLOT_BYTES - FLASH_UNIT, 0xFF, FLASH_UNIT);
+}
+
+/* The newest slot has no mark: the meter resumes from the slot before it, and the number of the
+ * next write is greater than that of both. No slot has a mark: the meter resumes from the newest
+ * one. */
+static void remove_marks(unsigned newest)
+{
+    uint32_t greatest = stored.slots.sequence;
+    restore();
+    remove_mark(newest);
+    need_open(row_after(STEPS - 1), "the slot before one without a mark");
+    need(stored.slots.sequence == greatest + 1, "the number after a slot without a mark");
+    restore();
+    for (unsigned slot = 0; slot < FLASH_SLOTS; slot++)
+        remove_mark(slot);
+    need_open(row_after(STEPS), "no slot has a mark");
+}
+
 /* No slot is whole, in several ways; the newest one is damaged and the next one was erased in
  * advance. */
 static void damage_all(unsigned newest)
@@ -478,7 +504,7 @@ static void store_others(void)
     need(!slots_write(&stored.slots, long_text, sizeof long_text) && slots_hold(&stored.slots, last_text, last_length), "a text that does not fit");
     need(slots_write(&stored.slots, long_text, SLOTS_TEXT_BYTES) && slots_hold(&stored.slots, long_text, SLOTS_TEXT_BYTES), "the longest text");
     need(!slots_hold(&stored.slots, long_text, SLOTS_TEXT_BYTES - 1), "the start of a text");
-    flash_bytes[stored.slots.newest][FLASH_SLOT_BYTES - 1] ^= 1;
+    flash_bytes[stored.slots.newest][FLASH_UNIT + SLOTS_TEXT_BYTES - 1] ^= 1;
     need(!slots_read(&stored.slots, stored.text, sizeof stored.text, &length), "a text that is read otherwise than before");
     need(slots_write(&stored.slots, text, sizeof text - 1), "a text that is not a trace");
     lose_ram();
@@ -508,6 +534,51 @@ static void wear_out(unsigned newest)
     }
     flash_wear_out(FLASH_SLOTS);
     need(stored_save(&stored) == STORED_OK, "a sound slot again");
+}
+
+/* The number of erases and programs so far. */
+static unsigned long changes(void)
+{
+    return flash_calls(FLASH_ERASE) + flash_calls(FLASH_PROGRAM);
+}
+
+/* Each read of a start fails: the meter is not opened and the flash is unchanged. The same call
+ * then opens the meter in its last state. */
+static void fail_reads(void)
+{
+    unsigned long before = flash_calls(FLASH_READ), reads;
+    restore();
+    need(slots_find(&stored.slots) == SLOTS_FOUND, "sound slots");
+    reads = flash_calls(FLASH_READ) - before;
+    for (unsigned long number = 1; number <= reads; number++) {
+        restore();
+        before = changes();
+        flash_fail(FLASH_READ, number);
+        need_closed(STORED_FLASH_FAILED, "a start whose read fails");
+        need(changes() == before, "a start whose read fails changes nothing");
+        need_open(row_after(STEPS), "the start after a read that failed");
+    }
+    printf("reads of a start that failed: %lu\n", reads);
+}
+
+/* Each erase and each program of a save fails: the next save succeeds, and a start finds it. */
+static void fail_changes(void)
+{
+    uint32_t moment = 6000, found;
+    uint8_t code;
+    for (unsigned long number = 0; number <= 4; number++) {
+        enum stored_result result;
+        restore();
+        need_open(row_after(STEPS), "sound slots");
+        need(meter_moment(&stored.meter, ++moment, &code) == METER_OK, "a moment");
+        flash_fail(number == 0 ? FLASH_ERASE : FLASH_PROGRAM, number == 0 ? 1 : number);
+        result = stored_save(&stored);
+        need(result == STORED_FLASH_FAILED || (result == STORED_OK && number == 4), "a save whose call fails");
+        flash_fail(FLASH_PROGRAM, 0);
+        need(stored_save(&stored) == STORED_OK, "the save after a call that failed");
+        lose_ram();
+        need(open_stored() == STORED_OK && meter_last_moment(&stored.meter, &found) == METER_OK && found == moment, "the save after a call that failed is found");
+    }
 }
 
 /* Allocates the whole pool; returns the number of blocks. */
@@ -570,12 +641,18 @@ static void damage(void)
     run_whole();
     memcpy(image, flash_bytes, sizeof image);
     flip_bits(stored.slots.newest);
+    restore();
+    slots_find(&stored.slots);
+    remove_marks(stored.slots.newest);
+    restore();
     slots_find(&stored.slots);
     damage_all(stored.slots.newest);
     store_others();
     restore();
     slots_find(&stored.slots);
     wear_out(stored.slots.newest);
+    fail_reads();
+    fail_changes();
     refuse_memory();
     erase_ahead();
     puts("all results of damaged slots are as defined");
@@ -628,7 +705,10 @@ int main(int count, char **words)
         cut_once(number);
     else if (strcmp(command, "double") == 0)
         cut_twice(number);
-    else if (strcmp(command, "damage") == 0)
+    else if (strcmp(command, "unstable") == 0) {
+        is_unstable = true;
+        cut_twice(number);
+    } else if (strcmp(command, "damage") == 0)
         damage();
     else if (strcmp(command, "image") == 0)
         return !(run(0) && fwrite(flash_bytes, sizeof flash_bytes, 1, stdout) == 1);
