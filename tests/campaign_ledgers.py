@@ -3,9 +3,9 @@
 they receive are stopped and killed at random times, by GNU parallel, by ssh with ledgers on each
 machine, and by a Slurm cluster of one node that the test starts, and run again until they are
 whole: no meter may get a second command, and the report must be whole and right. Also tested:
-ledgers that are missing, elsewhere or of another list, a part that arrives cut, two campaigns at
-once, a machine that does not answer, a write that fails in mid campaign, and 20,000 jobs through
-Slurm that are stopped once.
+ledgers that are missing, elsewhere or of another list, a part that arrives cut, a campaign that is
+killed in its first part, two campaigns at once, a machine that does not answer, a write that fails
+in mid campaign, and 20,000 jobs through Slurm that are stopped once.
 Every wait has a time limit. What a missing program would test is skipped.
 
 usage: tests/campaign_ledgers.py [--long] [--short] [--seed N]
@@ -26,6 +26,7 @@ import signal
 import socket
 import subprocess
 import sys
+import threading
 import time
 
 sys.dont_write_bytecode = True  # importing the modules of tests/ leaves no files
@@ -36,7 +37,7 @@ from counted_meters import COMMANDS, CountedMeters, kind_of
 from journal import in_folder
 from ledger import HEAD_END, any_verb, entries, first_differences, report_of, text_of
 from one_node_slurm import LONG_PATIENCE, Slurm, missing_commands
-from scripted_meters import CROWD
+from scripted_meters import CROWD, REQUESTS, ScriptedMeter, answer_to
 from serving import PASSWORD, check, wait_until
 
 JOBS, PARTS, LINES = 150, 3, 1_000  # a part of 50 jobs is filled up with empty lines
@@ -322,6 +323,81 @@ def killed_campaigns_command_nobody_twice(name, folder):
     print(f"{name}: {runs} runs, {left} jobs left unknown", flush=True)
 
 
+class Holding(ScriptedMeter):
+    """A meter that answers once the test allows it."""
+
+    def __init__(self):
+        self.requested, self.allowed = threading.Event(), threading.Event()
+        super().__init__(self.hold)
+
+    def hold(self, talk):
+        request = talk.open()
+        self.requested.set()
+        self.allowed.wait(LONGEST)
+        talk.send(answer_to(request))
+
+    def commands(self):
+        """The number of commands that it received in the connections that have ended."""
+        return sum(talk.frames.count(REQUESTS["disconnect"]) for talk in self.talks)
+
+
+def no_part_begins_later(name, folder, *words, named, has_ended=lambda: True):
+    """A campaign is killed while its first part waits for the last of its meters: the part ends, no
+    other one begins, and until then a second run is refused and names what runs. The same command
+    then continues, and no meter gets a second command."""
+    meters, holding, place = CountedMeters(JOBS), Holding(), JOBS // PARTS - 1
+    try:
+        campaign = Long(folder, meters)
+        job = "holding", f"127.0.0.1:{holding.port}", "disconnect"
+        text = campaign.path.read_text()
+        campaign.path.write_text(text.replace(" ".join(campaign.jobs[place]), " ".join(job)))
+        campaign.jobs[place], campaign.rows[place] = job, "done 0"
+        words = "--workers", "1", "--timeout", "0", *words
+        process = campaign.start(*words)
+        check(f"{name}: the part runs", holding.requested.wait(LONG_PATIENCE))
+        process.kill()
+        process.wait(LONGEST)
+        started.remove(process)
+        time.sleep(1)
+        refused = campaign.run(*words)
+        wanted = named(campaign)
+        check(f"{name}: a second run names what runs, and the command that ends it",
+              refused[:2] == (2, "") and all(it in refused[2] for it in wanted), refused, wanted)
+        holding.allowed.set()
+        check(f"{name}: what runs ends", wait_until(
+            lambda: campaign.is_free() and has_ended(), 3 * LONGEST), campaign.holders())
+        sizes = [(folder / "jobs.ledgers" / f"ledger.{it + 1}").stat().st_size
+                 for it in range(PARTS)]
+        check(f"{name}: no other part has begun", sizes[0] and not any(sizes[1:]), sizes)
+        campaign.follow()
+        check(f"{name}: no meter of another part was called", not any(campaign.commands[place:]))
+        ran = campaign.run(*words)
+        campaign.follow()
+        campaign.commands[place] = holding.commands()
+        check(f"{name}: no row is unknown", campaign.check_end(name, ran) == 0, ran[1])
+    finally:
+        holding.allowed.set()
+        stop_campaigns()
+        meters.stop()
+        holding.stop()
+
+
+def kill_of(command):
+    """What a refusal must have: the one process of the campaign whose command begins like this, and
+    the command that ends it."""
+    def named(campaign):
+        # (ssh is the child of a process that has the record open)
+        found = [it for holder in campaign.holders() for it in processes_of(holder)
+                 if script.command_of(it).startswith(command)]
+        return "processes that it started:", f"{found[0]} {command}", f" kill {found[0]}\n"
+    return named
+
+
+@in_folder
+def a_killed_campaign_begins_no_part(name, folder):
+    no_part_begins_later(name, folder, "--jobs", "1", named=kill_of(f"{HEAD_END} run "))
+
+
 @in_folder
 def what_is_known_is_printed(name, folder):
     """A campaign that is stopped prints the rows of its ledgers; a second one meanwhile is
@@ -344,7 +420,8 @@ def what_is_known_is_printed(name, folder):
                                      str(campaign.path)], capture_output=True, text=True,
                                     env={**os.environ, "METER_PASSWORD": PASSWORD}, timeout=LONGEST)
             check(f"{name}: a second campaign", second.returncode == 2 and not second.stdout
-                  and "another campaign of this list runs" in second.stderr, second)
+                  and "another campaign of this list runs" in second.stderr
+                  and second.stderr.endswith(f" kill {process.pid}\n"), second)
             process.send_signal(signal.SIGTERM)
             status = process.wait(LONGEST)
             client.close()
@@ -354,6 +431,9 @@ def what_is_known_is_printed(name, folder):
                   first_differences(wanted, found), errors.read_text()[-500:])
             check(f"{name}: how many rows", "50 of 150 jobs have a row" in errors.read_text(),
                   errors.read_text()[-500:])
+            check(f"{name}: the parts that had not begun", all(
+                f"campaign: part {it} was not begun: none of its jobs was sent.\n"
+                in errors.read_text() for it in (2, 3)), errors.read_text()[-500:])
         finally:
             stop_campaigns()
             meters.stop()
@@ -371,6 +451,17 @@ def arrays_command_nobody_twice(name, folder):
             print(f"SKIPPED Slurm: the daemons that the test started accept no tasks: {slurm.errors()}")
             return
         os.environ["SLURM_CONF"] = str(slurm.configuration)
+        place = folder / "one"
+        place.mkdir()
+        no_part_begins_later(f"{name}: no task begins a part", place, "--slurm", "--jobs", "1",
+                             named=lambda _: ("of an earlier run has tasks:", "PENDING",
+                                              f"RUNNING {socket.gethostname().split('.')[0]}",
+                                              " scancel --name campaign."),
+                             has_ended=slurm.has_no_task)
+        errors = [it.read_text() for it in place.glob("campaign.*/report.[23].err")]
+        check(f"{name}: what the other tasks report", len(errors) == 2
+              and all(it.endswith("is not begun: its campaign does not run\n") for it in errors),
+              errors)
         campaign = Long(folder, meters)
         process = campaign.start("--slurm", "--jobs", "3", "--workers", "1")
         ledgers = [folder / "jobs.ledgers" / f"ledger.{it}" for it in range(1, PARTS + 1)]
@@ -446,19 +537,24 @@ def long_arrays_command_nobody_twice(name, folder):
         os.environ.pop("SLURM_CONF", None)
 
 
+def program_of_machines(folder):
+    """A head end that reads the password on its machine: it is not sent."""
+    password, program = folder / "password", folder / "there"
+    password.write_text(f"{PASSWORD}\n")
+    password.chmod(0o600)
+    program.write_text(f'#!/bin/sh\nexec {HEAD_END} "$@" --password-file {password}\n')
+    program.chmod(0o700)
+    return program
+
+
 class ByMachines(Long):
     """A campaign by ssh to two names of this machine, each with ledgers of its own."""
 
     def __init__(self, folder, meters, shell, verb_of=any_verb):
         super().__init__(folder, meters, verb_of)
-        self.shell, self.there, self.names = shell, folder / "there", ("127.0.0.1", "localhost")
+        self.shell, self.names = shell, ("127.0.0.1", "localhost")
+        self.there = program_of_machines(folder)
         self.dead, self.has_dead = "ssh -F /dev/null -p 1 -o BatchMode=yes 127.0.0.9", False
-        # (the password is not sent: the command reads it on its machine)
-        password = folder / "password"
-        password.write_text(f"{PASSWORD}\n")
-        password.chmod(0o600)
-        self.there.write_text(f'#!/bin/sh\nexec {HEAD_END} "$@" --password-file {password}\n')
-        self.there.chmod(0o700)
 
     def words(self, *names):
         """The options of a campaign on these machines."""
@@ -491,6 +587,12 @@ def machines_command_nobody_twice(name, folder):
         place = folder / "whole"
         place.mkdir()
         a_campaign_by_machines(f"{name}: whole", place, shell)
+        place = folder / "one"
+        place.mkdir()
+        login = shell.login("127.0.0.1")
+        no_part_begins_later(f"{name}: no part begins by GNU parallel", place, "--jobs", "1",
+                             "--sshlogin", login, "--folder", str(place), "--program",
+                             str(program_of_machines(place)), named=kill_of(login))
         for number in range(LONG_KILLED_BY_SSH if is_long else KILLED_BY_SSH):
             choose, meters = random.Random(f"{seed} ssh {number}"), CountedMeters(KILLED_JOBS)
             place = folder / str(number)
@@ -572,7 +674,7 @@ def a_failed_write_ends_the_parts(name, folder):
                          text=True, timeout=LONGEST)
     check(f"{name}: report", (ran.returncode, ran.stdout) == (1, "first done 0\n"), ran)
     wanted = (f"{folder}/jobs.ledgers/ledger.3.at: Is a directory: started no more parts and stopped "
-              "those that ran", "part 2 failed ", "part 3 failed (no exit status): it was not begun",
+              "those that ran", "part 2 failed ", "part 3 was not begun: none of its jobs was sent",
               "1 of 3 jobs have a row")
     check(f"{name}: what it says", all(f"campaign: {it}" in ran.stderr for it in wanted), ran.stderr)
     number = process.read_text().strip()
@@ -603,9 +705,10 @@ def machine_refusals(name, campaign, record):
 
 
 TESTS = (a_campaign_is_run_again, what_is_known_is_printed, what_parallel_reserved_is_ended,
-         a_part_that_arrives_cut_is_refused, killed_campaigns_command_nobody_twice, a_failed_write_ends_the_parts,
-         machines_command_nobody_twice,
-         arrays_command_nobody_twice, long_arrays_command_nobody_twice)
+         a_part_that_arrives_cut_is_refused, a_killed_campaign_begins_no_part,
+         killed_campaigns_command_nobody_twice, a_failed_write_ends_the_parts,
+         machines_command_nobody_twice, arrays_command_nobody_twice,
+         long_arrays_command_nobody_twice)
 
 
 def main():

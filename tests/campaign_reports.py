@@ -92,6 +92,12 @@ def make_ledger(path, jobs):
                 database.execute("INSERT INTO outcome VALUES (?, ?, ?, ?)", (place, *outcome))
         database.execute("INSERT INTO campaign VALUES (1, ?)", (len(jobs),))
         database.commit()
+    make_log(path)
+
+
+def make_log(path):
+    """Makes the empty log of a ledger, which a run that ended in order leaves."""
+    pathlib.Path(f"{path}-wal").touch(0o600)
 
 
 def address_of(place):
@@ -326,6 +332,32 @@ def pages_of_more_and_fewer_ledgers(name, folder):
 
 
 @in_folder
+def a_part_that_has_not_begun_is_not_sent(name, folder):
+    """An empty file is the ledger of such a part, and the file next to it has its jobs."""
+    first, second, other = (folder / f"ledger.{it}" for it in (1, 2, 3))
+    make_ledger(first, JOBS[:3])
+    second.touch()
+    other.touch()
+    part = "m1 192.0.2.9:4059 disconnect\n\nm2 h<b>:4059 state\n"
+    (folder / "part.2").write_text(part + "\n" * 9)
+    status, text, errors = report(first, second, other)
+    tables = Page(text).tables
+    check(f"{name}: its jobs", (status, errors) == (0, "") and [it[:6] for it in tables["jobs"][4:]]
+          == [["m1", "192.0.2.9:4059", "disconnect", "not sent", "", "no"],
+              ["m2", "h<b>:4059", "state", "not sent", "", "no"]], status, errors)
+    counts = {row[0]: row[1] for row in tables.get("counts", [])}
+    found = counts.get("jobs"), counts.get("not sent")
+    check(f"{name}: the numbers", found == ("5", "2"), counts)
+    for path, count in (second, 2), (other, 0):
+        check(f"{name}: {path.name}", f"<li>{path}: not begun, jobs not sent: {count}</li>" in text)
+    check(f"{name}: it is left", second.exists() and not second.stat().st_size)
+    # (a log may have rows that the file does not: head_end reads them, or refuses them)
+    (folder / "ledger.3-wal").write_text("rows")
+    status, text, errors = report(other)
+    check(f"{name}: a log", "not begun, jobs" not in text, status, text[-500:], errors)
+
+
+@in_folder
 def wrong_input_writes_no_page(name, folder):
     path, missing = folder / "none.html", folder / "missing"
     ledger, script = folder / "whole.ledger", folder / "script"
@@ -388,7 +420,8 @@ def a_browser_filters_the_table(name, folder):
 
 
 TESTS = (records_are_those_of_the_rows, other_rows_are_refused, the_page_has_the_records,
-         pages_of_more_and_fewer_ledgers, wrong_input_writes_no_page, a_browser_filters_the_table)
+         pages_of_more_and_fewer_ledgers, a_part_that_has_not_begun_is_not_sent,
+         wrong_input_writes_no_page, a_browser_filters_the_table)
 
 
 def main(words):

@@ -623,9 +623,11 @@ def a_campaign_is_stopped(name, folder):
             text, _ = made.communicate(timeout=60)
             client.close()
             errors = without_warnings(log.read_text())
-            named = [line.split(" failed")[0] for line in own_lines(errors) if " failed" in line]
+            named = re.findall(r"(?m)^campaign: part (\d) (?:failed|was not begun)", errors)
             check(f"{name}: {signal_sent.name}", (made.returncode, text) == (wanted, ""), made.returncode, text, errors[:500])
-            check(f"{name}: {signal_sent.name}, its parts", named == ["campaign: part 1", "campaign: part 2", "campaign: part 3"], errors[:500])
+            check(f"{name}: {signal_sent.name}, its parts", named == ["1", "2", "3"]
+                  and "part 3 was not begun: none of its jobs was sent. Its jobs:" in errors,
+                  errors[:500])
             check(f"{name}: {signal_sent.name}, no head end is left", wait_until(lambda: not is_running(program)))
             drain(silent)
 
@@ -903,9 +905,10 @@ def an_array_is_stopped(name, crowd, slurm, folder):
         text, _ = made.communicate(timeout=LONGEST)
         client.close()
     check(f"{name}: report", (made.returncode, text) == (143, wanted), made.returncode, differences(wanted, text))
-    failed = [line for line in own_lines(without_warnings(log.read_text())) if " failed" in line]
+    lines = own_lines(without_warnings(log.read_text()))
+    failed = [line for line in lines if line.startswith("campaign: part ")]
     check(f"{name}: its parts", len(failed) == 2 and " part 2 failed " in failed[0] and "the results of its jobs are unknown" in failed[0]
-          and " part 3 failed " in failed[1] and "it was not begun" in failed[1], failed)
+          and "part 3 was not begun: none of its jobs was sent." in failed[1], failed)
     check(f"{name}: no head end is left", not is_running(copy))
     check(f"{name}: no task is left", slurm.has_no_task())
     check(f"{name}: each command once", crowd.counts() == expected_counts(expected))

@@ -3,7 +3,8 @@
 executables that the gate left: the standard streams of the programs, the connections of a client
 (`head_end run`), and a meter that serves two clients. After a failure nothing more is written on
 that stream and the fault is reported; a short or an interrupted call changes nothing. An `accept`
-of the meter fails by each error that passes, and by one that ends it.
+of the meter fails by each error that passes, and by one that ends it. If its log fails, it serves
+without.
 
 usage: tests/failing_streams.py"""
 
@@ -21,9 +22,11 @@ from refused_memory import METERS, PROGRAMS, print_counts, talk
 from refusing import Refusing
 from scripted_meters import AARQ as CLIENT_AARQ
 from scripted_meters import RELEASE, REQUESTS, ScriptedMeter
-from serving import NO_CLIENT, PASSWORD, PLAYER, SERVER, STATE, Client, Server, check, is_part_of, play_trace, test, wait_until
+from serving import (NO_CLIENT, PASSWORD, PLAYER, RELEASED, SERVER, STATE, Client, Server, check, connect_again, is_part_of,
+                     play_trace, test, wait_until)
 
-FAULTS = {b"fault: read\n", b"fault: write\n"}
+READ_FAULT = b"standard input: a read failed\nfault: read\n"
+WRITE_FAULT = b"standard output: a write failed\nfault: write\n"
 CONSOLE_FAILED = "console: reading failed, no further line is read\n"
 HARMLESS = ("short_stream", "interrupt_stream")
 # The errors after which accept(2) says to try again, and those of a lack of descriptors or memory.
@@ -38,12 +41,18 @@ def each_call(run, how, count):
     return collections.Counter(run(**{how: number}) for number in range(1, count + 1))
 
 
+def fault_of(errors):
+    """The fault that a program reports, or None if it reports none or something else."""
+    return {READ_FAULT: "fault: read", WRITE_FAULT: "fault: write"}.get(errors)
+
+
 def after_failure(ran, ample):
     """The result of a failed call: the output must be a prefix of that of a run without failures,
     and nothing may follow the fault."""
-    if ran.status != 3 or ran.errors not in FAULTS or not ample.output.startswith(ran.output) or ran.late:
+    fault = fault_of(ran.errors)
+    if ran.status != 3 or not fault or not ample.output.startswith(ran.output) or ran.late:
         return f"WRONG: {ran}"
-    return ran.errors.decode().strip()
+    return fault
 
 
 def after_harmless(ran, ample):
@@ -74,8 +83,8 @@ def campaign_result(jobs, **which):
     ran = campaign(jobs, **which)
     if ran.late:
         return f"WRONG: a write after the failure: {ran}"
-    if ran.status == 3 and ran.errors in FAULTS and not ran.output:
-        return ran.errors.decode().strip()
+    if ran.status == 3 and fault_of(ran.errors) and not ran.output:
+        return fault_of(ran.errors)
     rows = [line.split(" ", 1)[1] for line in ran.output.decode().splitlines()]
     differing = [row for row, (_, wanted) in zip(rows, METERS) if row != wanted]
     if ran.status != 0 or ran.errors or len(rows) != len(METERS) or differing not in ([], ["unknown"]):
@@ -115,7 +124,7 @@ def serve_two_clients(**which):
     late = refusing.counts()[2]
     if late:
         return "WRONG: a write after the failure"
-    if status == 3 and "fault: write\n" in errors and whole == 2:
+    if status == 3 and errors.endswith(WRITE_FAULT.decode()) and whole == 2:
         return "fault: write of the trace"
     has_no_console = status == 3 and errors.endswith("fault: read\n") and CONSOLE_FAILED in errors
     if not has_no_console and (status != 0 or "fault" in errors or "console" in errors):
@@ -140,6 +149,28 @@ def a_meter_has_failing_connections(name):
         found = each_call(serve_two_clients, how, count)
         print_counts(f"meter_server serve, {how.split('_')[0]}", found, "calls")
         check(f"{name}: {how}", set(found) == {everything}, found)
+
+
+class UnheardServer(Server):
+    """A server whose log may be lost, so that nobody waits for a line of it."""
+
+    def wait_for(self, words, times=1):
+        return words in self.errors
+
+
+def a_log_that_fails_stops_nobody(name):
+    """The log's queue fails at each of its reads and writes in turn."""
+    for number in range(1, 21):
+        server = UnheardServer("--connections", "2", environment=refusing.environment(fail_log=number))
+        server.end_input()
+        clients = [connect_again(server)]
+        clients.append(connect_again(server))
+        is_answered = all(client.get(STATE) == "value 1601" and client.release() == RELEASED for client in clients)
+        for client in clients:
+            client.close()
+        status, trace, errors = server.end()
+        check(f"{name}: call {number}", is_answered and status == 0 and "fault" not in errors, status, errors)
+        check(f"{name}: call {number}, played", all(is_part_of(client.seen, play_trace(trace)) for client in clients))
 
 
 def errors_of_accept_pass(name):
@@ -178,7 +209,7 @@ def main():
             return 1
     refusing = Refusing()
     for function in (programs_have_failing_streams, a_client_has_failing_connections, a_meter_has_failing_connections,
-                     errors_of_accept_pass, a_listener_that_fails_ends_the_server):
+                     a_log_that_fails_stops_nobody, errors_of_accept_pass, a_listener_that_fails_ends_the_server):
         test(function)
     refusing.stop()
     print(f"{serving.passed} passed, {serving.failed} failed")

@@ -390,11 +390,12 @@ def wrong_words_are_refused():
         check(f"{' '.join(words)} is refused", ran.returncode == 2)
     ran = subprocess.run([str(FLEET), "serve", "--password", "", "--meters", "3"], capture_output=True,
                          text=True, timeout=PATIENCE, check=False)
-    check("an empty password is refused", (ran.returncode, ran.stderr) == (2, "fault: input\n"))
+    check("an empty password is refused",
+          (ran.returncode, ran.stderr) == (2, "password: must be 1 to 32 bytes\nfault: input\n"))
 
 
 def reasons_are_reported():
-    """With --verbose a line before the fault says why."""
+    """A line before the fault says why, with --verbose and without."""
     with socket.create_server(("127.0.0.1", 0)) as taken:
         address = f"127.0.0.1:{taken.getsockname()[1]}"
         port = address.split(":")[1]
@@ -404,9 +405,10 @@ def reasons_are_reported():
                  "listen: expected an IP address\nfault: input\n"),
                 (["--password", PASSWORD, "--port", port], 3,
                  f"{address}: the address is in use\nfault: listen\n")):
-            ran = subprocess.run([str(FLEET), "serve", "--meters", "3", "--verbose", *words],
-                                 capture_output=True, text=True, timeout=PATIENCE, check=False)
-            check(f"{words[-1]!r}: why", (ran.returncode, ran.stderr) == (status, lines))
+            for also in ([], ["--verbose"]):
+                ran = subprocess.run([str(FLEET), "serve", "--meters", "3", *also, *words],
+                                     capture_output=True, text=True, timeout=PATIENCE, check=False)
+                check(f"{words[-1]!r} {also}: why", (ran.returncode, ran.stderr) == (status, lines))
 
 
 def passwords_are_found():
@@ -426,7 +428,8 @@ def passwords_are_found():
         path.chmod(0o644)
         missing = "password: expected --password, --password-file or the variable METER_PASSWORD\n"
         exposed = f"{path}: expected a file that only its owner may read, as chmod 600 makes it\n"
-        for words, variable, line in (((), None, missing), ((), "", ""), ((), "x" * 33, ""),
+        length = "password: must be 1 to 32 bytes\n"
+        for words, variable, line in (((), None, missing), ((), "", length), ((), "x" * 33, length),
                                       (("--password-file", str(path)), None, exposed)):
             ran = subprocess.run([str(FLEET), "serve", "--meters", "3", "--port", "0", *words],
                                  capture_output=True, text=True, timeout=PATIENCE, check=False,
@@ -853,7 +856,7 @@ def meters_with_faults_resume():
             check("a meter with another password resumes", fleet.answers("2 state")
                   == ["2 disconnected"] and ask(client, AARQ, REJECTED))
         ran = subprocess.run([str(FLEET), "serve", "--meters", "3", "--password", PASSWORD,
-                              "--port", "0", "--verbose", "--resume", str(path), "--fault",
+                              "--port", "0", "--resume", str(path), "--fault",
                               "refuses=1"], capture_output=True, text=True, timeout=PATIENCE,
                              check=False)
         wanted = "fault refuses: must not be combined with --resume\nfault: input\n"
@@ -870,7 +873,7 @@ def wrong_faults_are_refused():
              "fault slow=41: the shares are more than 100 percent together")):
         options = [word for it in words for word in ("--fault", it)]
         command = [str(FLEET), "serve", "--meters", "3", "--password", PASSWORD, "--port", "0"]
-        ran = subprocess.run([*command, "--verbose", *options], capture_output=True, text=True,
+        ran = subprocess.run([*command, *options], capture_output=True, text=True,
                              timeout=PATIENCE, check=False)
         check(f"{words} are refused", (ran.returncode, ran.stderr) == (2, f"{line}\nfault: input\n"))
     ran = subprocess.run([*command, "--seed", "4294967296"], capture_output=True, timeout=PATIENCE,

@@ -4,7 +4,8 @@ DESTDIR, that --remove removes exactly that, versions, manual pages and completi
 programs and scripts that are called through symbolic links, and programs without a proved
 executable.
 
-What a missing tool would test (man, GNU parallel, matplotlib) is skipped with a message.
+What a missing tool would test (man, zsh, fish, GNU parallel, matplotlib) is skipped with a message
+(Debian: apt-get install man-db zsh fish parallel python3-matplotlib).
 
 usage: tests/installing.py
 """
@@ -42,11 +43,12 @@ def run(*words, **more):
                           text=True, timeout=300, **more)
 
 
-def install(*words, destination=None):
-    """Runs bin/install, with DESTDIR if a destination is given."""
+def install(*words, destination=None, home=None, **more):
+    """Runs bin/install, with DESTDIR if a destination is given, and with a home folder."""
     environment = {name: it for name, it in os.environ.items() if name != "DESTDIR"}
     environment |= {"DESTDIR": str(destination)} if destination else {}
-    return run(TOP / "bin" / "install", *words, env=environment)
+    environment |= {"HOME": str(home)} if home else {}
+    return run(TOP / "bin" / "install", *words, env=environment, **more)
 
 
 def tree(folder):
@@ -79,9 +81,9 @@ def destinations(room):
     shared = {str(it.relative_to(TOP)) for it in (TOP / "share").rglob("*") if it.is_file()}
     yield "DESTDIR: programs, licence, documents and share", wanted | shared <= files
     unit = (root / "share/systemd/meter_server.service").read_text()
-    yield "DESTDIR: the unit calls PREFIX", f"ExecStart={prefix}/bin/meter_service " in unit
+    yield "DESTDIR: the unit calls PREFIX", f'ExecStart="{prefix}/bin/meter_service" ' in unit
     ran = install("--remove", prefix, destination=stage)
-    yield "DESTDIR: --remove", ran.returncode == 0 and not tree(root)
+    yield "DESTDIR: --remove", ran.returncode == 0 and not stage.exists()
 
 
 def removals(room):
@@ -108,6 +110,39 @@ def removals(room):
     yield from an_earlier_file(root)
 
 
+def made_folders(room):
+    """Checks that --remove removes PREFIX and the folders above it if, and only if, an installation
+    made them and they are empty."""
+    for destination in (None, room / "made for DESTDIR"):
+        first = destination or room / "made"
+        prefix = "/usr/local" if destination else first / "some" / "prefix"
+        root = Path(f"{destination or ''}{prefix}")
+        installs = install(prefix, destination=destination).returncode == 0
+        yield f"folders for {prefix}: installs", installs
+        installs = install(prefix, destination=destination).returncode == 0
+        yield f"folders for {prefix}: installs again", installs
+        other = root.parent / "other"
+        other.touch()
+        ran = install("--remove", prefix, destination=destination)
+        left = {it.relative_to(first) for it in (other, *other.parents) if first in it.parents}
+        yield (f"folders for {prefix}: those of others stay",
+               ran.returncode == 0 and set(tree(first)) == left)
+        shutil.rmtree(root.parent)
+        install(prefix, destination=destination)
+        ran = install("--remove", prefix, destination=destination)
+        yield (f"folders for {prefix}: an earlier one stays",
+               ran.returncode == 0 and first.is_dir() and not tree(first))
+        shutil.rmtree(first)
+        install(prefix, destination=destination)
+        ran = install("--remove", prefix, destination=destination)
+        yield f"folders for {prefix}: removed", ran.returncode == 0 and not first.exists()
+    root = room / "was there"
+    root.mkdir()
+    install(root)
+    ran = install("--remove", root)
+    yield "folders: a PREFIX that was there stays", ran.returncode == 0 and root.is_dir()
+
+
 def an_earlier_file(root):
     """A file that an earlier installation copied, and the present one does not."""
     install(root)
@@ -120,6 +155,99 @@ def an_earlier_file(root):
     yield "remove: a file of an earlier installation", ran.returncode == 0 and not old.exists()
     ran = install("--remove", root)
     yield "remove: with a record of two installations", ran.returncode == 0
+
+
+def modes(room):
+    """Checks that the umask does not decide who may use an installation."""
+    for mask in (0o077, 0o000):
+        made = room / f"umask {mask:03o}"
+        installs = install(made / "prefix", umask=mask).returncode == 0
+        yield f"umask {mask:03o}: installs", installs
+        found = {it: it.stat().st_mode & 0o7777 for it in (made, *made.rglob("*"))}
+        wrong = [f"{mode:o} {it.relative_to(room)}" for it, mode in found.items()
+                 if mode != 0o755 and (it.is_dir() or mode != 0o644)]
+        yield f"umask {mask:03o}: modes {', '.join(wrong[:3])}", not wrong
+        record = made / "prefix" / RECORD
+        yield f"umask {mask:03o}: the record", found.get(record) == 0o644
+        shutil.rmtree(made)
+
+
+# Prefixes with characters that mean more to systemd or to a shell. systemd refuses a program whose
+# path has quotes, backslashes or control characters, as the second does.
+SPECIAL = ("pre fix;100% $HOME ${HOME} #1", """it's "quoted" \\x20 50% $HOME ${HOME}\t*""")
+# A chpst that prints its words, one a line.
+CHPST = '#!/bin/sh\nprintf "%s\\n" "$@"\n'
+OPTIONS = ["/var/lib/meter_server", "--password-file", "/etc/meter_server/password",
+           "--listen", "0.0.0.0:4059", "--session", "60", "--inactivity", "30"]
+
+
+def services(room):
+    """Checks that the service files name the script in PREFIX, whatever characters PREFIX has."""
+    tools = room / "tools of runit"
+    tools.mkdir()
+    (tools / "chpst").write_text(CHPST)
+    (tools / "chpst").chmod(0o700)
+    if not shutil.which("systemd-analyze"):
+        print("SKIPPED units of systemd: systemd-analyze is not installed")
+    for name in SPECIAL:
+        root = room / name
+        installs = install(root).returncode == 0
+        yield f"services in {name}: installs", installs
+        script = f"{root}/bin/meter_service"
+        ran = run("sh", root / "share/runit/meter_server/run",
+                  env={**os.environ, "PATH": f"{tools}:{os.environ['PATH']}"})
+        yield (f"services in {name}: runit",
+               ran.stdout.splitlines() == ["-u", "meter_server", script, *OPTIONS])
+        if shutil.which("systemd-analyze"):
+            yield from units(root, name, script)
+        shutil.rmtree(root)
+
+
+def units(root, name, script):
+    """Checks that systemd accepts the unit, and which words it runs."""
+    environment = {**os.environ, "MANPATH": f"{root}/share/man"}
+    unit = root / "share/systemd/meter_server.service"
+    ran = run("systemd-analyze", "verify", unit, env=environment)
+    yield f"services in {name}: systemd", (ran.returncode, ran.stdout + ran.stderr) == (0, "")
+    ran = run("systemd-analyze", "verify", unit,
+              env={**environment, "SYSTEMD_LOG_LEVEL": "debug"})
+    line = re.search(r"(?m)^\s*Command Line: (.*)$", ran.stdout)
+    # (it shows a tab as `\t`, all else as a shell reads it)
+    shown = line[1].replace("\\t", "\t") if line else ""
+    words = run("sh", "-c", f"printf '%s\\n' {shown}").stdout.splitlines()
+    # (systemd replaces variables in the words after the program, and `$$` by a dollar sign)
+    wanted = [script, *OPTIONS]
+    if words[:1] != [script]:
+        wanted = ["/usr/bin/env", "python3", script.replace("$", "$$"), *OPTIONS]
+    yield f"services in {name}: the words of systemd", words == wanted
+
+
+def prefixes(room):
+    """Checks which words are a PREFIX or a DESTDIR, and what is made in the current folder."""
+    folder = room / "current folder"
+    folder.mkdir()
+    for word in ("", "help", "some/folder", "~nobody_at_all/some"):
+        for words in ([word], ["--remove", word]):
+            ran = install(*words, cwd=folder)
+            yield (f"prefix {words}", (ran.returncode, ran.stdout) == (2, "")
+                   and ran.stderr.startswith("install: PREFIX: expected an absolute path"))
+    for word in ("stage", "~nobody_at_all/stage"):
+        ran = install("/usr", destination=word, cwd=folder)
+        yield (f"DESTDIR {word}", ran.returncode == 2
+               and ran.stderr.startswith("install: DESTDIR: expected an absolute path"))
+    yield "prefix: nothing is made", not tree(folder)
+    for word, wanted in (("./some", folder / "some"), ("../other", room / "other"),
+                         ("~/other", room / "other"), (".", folder)):
+        ran = install(word, cwd=folder, home=room)
+        yield f"prefix {word}", ran.returncode == 0 and (wanted / RECORD).exists()
+        ran = install("--remove", word, cwd=folder, home=room)
+        yield f"prefix {word}: --remove", ran.returncode == 0 and not tree(wanted)
+    for stage, wanted in (("./stage", folder / "stage"), (f"{folder}/stage/", folder / "stage")):
+        ran = install("/usr", destination=stage, cwd=folder)
+        yield (f"DESTDIR {stage}",
+               ran.returncode == 0 and (wanted / "usr" / RECORD).exists())
+        ran = install("--remove", "/usr", destination=stage, cwd=folder)
+        yield f"DESTDIR {stage}: --remove", ran.returncode == 0
 
 
 def arguments():
@@ -172,12 +300,15 @@ def versions(root):
         yield f"the version of bin/{it}", (ran.returncode, ran.stdout) == (0, f"{it} {number[1]}\n")
 
 
+# The subcommands of the programs that have some.
+BELOW = {"meter_server": ("apdu", "hex", "serve"), "meter_fleet": ("serve",),
+         "head_end": ("check", "run", "status", "ask")}
+
+
 def options_of(root, name):
     """The options that the help of a command and of its subcommands describes."""
-    commands = {"meter_server": ("apdu", "hex", "serve"), "meter_fleet": ("serve",),
-                "head_end": ("check", "run", "status", "ask")}
     texts = [run(root / "bin" / name, *it, "--help").stdout
-             for it in ((), *((it,) for it in commands.get(name, ())))]
+             for it in ((), *((it,) for it in BELOW.get(name, ())))]
     return sorted(set(re.findall(r"(?m)^ +(?:-\w, )?(--[a-z-]+)", "\n".join(texts))))
 
 
@@ -218,6 +349,72 @@ def completions(root):
         yield f"{name} {word} is completed", run("bash", "-c", script).stdout == f"{wanted}\n"
 
 
+# Where the completions of a command are, for each shell.
+SHELLS = {"bash": "bash-completion/completions/{}", "zsh": "zsh/site-functions/_{}",
+          "fish": "fish/vendor_completions.d/{}.fish"}
+# Prints the words that a completion of zsh passes to zsh's own functions, one a line.
+ZSH_WORDS = """
+_arguments() { print -rl -- "$@" }
+_describe() { print -rl -- "${(@P)2}" }
+words=(%s) CURRENT=$#words
+complete_words() { . "$1" }
+complete_words "$1"
+"""
+
+
+def completions_of_shells(root):
+    """Checks that each shell reads its completions, and describes options as `--help` does."""
+    for shell, place in SHELLS.items():
+        if not shutil.which(shell):
+            print(f"SKIPPED completions of {shell}: {shell} is not installed")
+            continue
+        for name in COMMANDS:
+            file = root / "share" / place.format(name)
+            ran = run(shell, "-n", file)
+            yield f"{shell} reads {file.name}", (ran.returncode, ran.stderr) == (0, "")
+        if shell == "zsh":
+            yield from descriptions(root, "zsh", described_in_zsh)
+        elif shell == "fish":
+            yield from descriptions(root, "fish", described_in_fish)
+
+
+def descriptions(root, shell, described):
+    """Checks that the completions of a shell describe the options of each program as its help does,
+    and a script's option and a subcommand with their apostrophes. None in the words is a subcommand
+    that is still to be completed."""
+    for name in PROGRAMS:
+        for words in ((name,), *((name, it) for it in BELOW.get(name, ()))):
+            ran = run(root / "bin" / name, *words[1:], "--help")
+            wanted = dict(re.findall(r"(?m)^ {6}--([a-z-]+)(?: <.*?>)? {2,}(.*?)"
+                                     r"(?: \[(?:default|possible values): .*\])?$", ran.stdout))
+            found = described(root, name, words)
+            for option, text in wanted.items():
+                yield (f"{shell} describes {' '.join(words)} --{option}",
+                       found.get(f"--{option}") == text)
+    found = described(root, "campaign", ("campaign",)).get("--passwords", "")
+    yield f"{shell} describes campaign --passwords", found.startswith("file of the meters' own")
+    found = described(root, "head_end", ("head_end", None)).get("status", "")
+    yield f"{shell} describes head_end status", "a ledger's campaign" in found
+
+
+def described_in_zsh(root, name, words):
+    """The description that zsh shows for each option after these words, or each subcommand."""
+    file = root / "share" / SHELLS["zsh"].format(name)
+    words = " ".join(it for it in words if it)
+    ran = run("zsh", "-f", "-c", ZSH_WORDS % f"{words} ''", "zsh", file)
+    pairs = re.findall(r"(?m)^(--[a-z-]+)\[((?:[^\\\]]|\\.)*)\]|^(\w+):(.*)$", ran.stdout)
+    return {option or command: re.sub(r"\\(.)", r"\1", text or about)
+            for option, text, command, about in pairs}
+
+
+def described_in_fish(root, name, words):
+    """The description that fish shows for each option after these words, or each subcommand."""
+    file = root / "share" / SHELLS["fish"].format(name)
+    line = " ".join([it or "" for it in words] + ["--"] * (None not in words))
+    ran = run("fish", "--no-config", "-c", 'source $argv[1]; complete -C "$argv[2]"', file, line)
+    return dict(it.split("\t", 1) for it in ran.stdout.splitlines() if "\t" in it)
+
+
 def links(root, room):
     """Commands that are called through a link to a link, in a folder without the others."""
     for at, bin_folder in enumerate((root / "bin", TOP / "bin")):
@@ -256,38 +453,85 @@ def linked_scripts(folder):
 
 # An rt that prints its words.
 RT = '#!/bin/sh\nfor it; do echo "$it"; done\n'
+# What bin/manuals reads of the sources of the programs.
+SOURCES = ("arguments.rt", "options.rt")
 
 
-def unproved(room):
-    """Checks of the words with which bin/.run runs a program that has no proved executable."""
-    top, tools = room / "unproved", room / "tools"
+def copy_without_executables(top):
+    """Copies what bin/.run and bin/manuals use, without the executables, to a folder."""
     (top / "bin").mkdir(parents=True)
+    for name in (*PROGRAMS, ".run", "manuals"):
+        shutil.copy(TOP / "bin" / name, top / "bin" / name)
+    for it in PROGRAMS:
+        (top / "crates" / f"{it}_cli").mkdir(parents=True)
+    for it in (TOP / "crates").glob("*/src/*.rt"):
+        if it.name in SOURCES:
+            copy = top / it.relative_to(TOP)
+            copy.parent.mkdir(parents=True, exist_ok=True)
+            shutil.copy(it, copy)
+
+
+def unproved(root, room):
+    """Checks of bin/.run for programs that have no proved executable: with which words it runs one,
+    which command it names, and that --help and --version need none."""
+    top, tools = room / "unproved", room / "tools"
+    copy_without_executables(top)
     tools.mkdir()
     (tools / "rt").write_text(RT)
     (tools / "rt").chmod(0o700)
-    for it in PROGRAMS:
-        (top / "crates" / f"{it}_cli").mkdir(parents=True)
-        for name in (it, ".run"):
-            shutil.copy(TOP / "bin" / name, top / "bin" / name)
     (room / "run.trace").touch()
     environment = {**os.environ, "PATH": f"{tools}:{os.environ['PATH']}"}
+
+    def run_in(words):
+        name, *words = words.split()
+        return name, run(top / "bin" / name, *words, cwd=room, env=environment)
+
     for words, wanted in (
             ("head_end status --ledger some/ledger --format csv",
              f"status --ledger {room}/some/ledger --format csv"),
             ("head_end status --ledger=ledger", f"status --ledger={room}/ledger"),
             ("meter_server hex --password-file password --device RELAY2",
              f"hex --password-file {room}/password --device RELAY2"),
-            ("trace_player --from 2 run.trace", f"--from 2 {room}/run.trace"),
-            ("head_end run --passwords passwords --help", f"run --passwords {room}/passwords --help"),
-            ("meter_fleet serve -h", "serve -h"),
-            ("head_end run --ledger ledger", None), ("head_end ask --ledger ledger", None),
-            ("meter_server serve --password --helpless", None), ("meter_fleet serve", None)):
-        name, *words = words.split()
-        ran = run(top / "bin" / name, *words, cwd=room, env=environment)
-        found = ran.stdout.splitlines()[2:] if ran.stdout.startswith("try\n--\n") else None
+            ("trace_player --from 2 run.trace", f"--from 2 {room}/run.trace")):
+        name, ran = run_in(words)
         found = ran.stdout.removeprefix("try\n--\n").replace("\n", " ").strip()
-        yield (f"unproved: {name} {' '.join(words)}",
-               (ran.returncode, found) == ((0, wanted) if wanted else (2, "")))
+        yield f"unproved: {words}", (ran.returncode, found) == (0, wanted)
+        yield (f"unproved: {words}: what builds it",
+               f"{name}: bin/build {name} builds the proved one\n" in ran.stderr)
+    for words in ("head_end run --ledger ledger", "head_end ask --ledger ledger",
+                  "meter_server serve --password --helpless", "meter_fleet serve",
+                  "meter_fleet --nonsense", "meter_fleet"):
+        name, ran = run_in(words)
+        yield f"unproved: {words}", (ran.returncode, ran.stdout) == (2, "")
+        yield (f"unproved: {words}: what builds it",
+               f"older than the sources: run bin/build {name} first (" in ran.stderr)
+    yield from answers_without_build(root, top, room / "tools without rt")
+
+
+def answers_without_build(root, top, tools):
+    """Checks that a program without an executable prints the help and the version of an executable,
+    with a password in the environment and without, also if rt is not installed."""
+    tools.mkdir()
+    (tools / "python3").symlink_to(sys.executable)
+    for it in ("bash", "dirname", "find", "readlink", "sh"):
+        (tools / it).symlink_to(shutil.which(it))
+    without = {name: it for name, it in os.environ.items() if name != "METER_PASSWORD"}
+    without["PATH"] = str(tools)
+    for name in PROGRAMS:
+        for words in ((), *((it,) for it in BELOW.get(name, ()))):
+            for flag, more in (("--help", {}), ("-h", {"METER_PASSWORD": "12345678"})):
+                ran = run(top / "bin" / name, *words, flag, env=without | more)
+                wanted = run(root / "libexec/wesplina" / name, *words, flag, env=without | more)
+                yield (f"unproved: {' '.join((name, *words, flag))}",
+                       (ran.returncode, ran.stdout, ran.stderr) == (0, wanted.stdout, ""))
+        for flag in ("--version", "-V"):
+            ran = run(top / "bin" / name, flag, env=without)
+            number = run(root / "libexec/wesplina" / name, flag).stdout.strip()
+            yield (f"unproved: {name} {flag}", (ran.returncode, ran.stdout, ran.stderr)
+                   == (0, f"{number} (not built from these sources)\n", ""))
+    ran = run(top / "bin" / "head_end", "run", "--passwords", "passwords", "--help", env=without)
+    wanted = run(root / "libexec/wesplina/head_end", "run", "--help", env=without)
+    yield "unproved: --help after other words", (ran.stdout, ran.stderr) == (wanted.stdout, "")
 
 
 def all_rows(room):
@@ -295,14 +539,19 @@ def all_rows(room):
     yield from arguments()
     yield from destinations(room)
     yield from removals(room)
+    yield from made_folders(room)
+    yield from modes(room)
+    yield from services(room)
+    yield from prefixes(room)
     root = room / "installed"
     ran = install(root)
     yield "installs", ran.returncode == 0
     yield from versions(root)
     yield from pages(root)
     yield from completions(root)
+    yield from completions_of_shells(root)
     yield from links(root, room)
-    yield from unproved(room)
+    yield from unproved(root, room)
 
 
 def main():

@@ -3,8 +3,9 @@
 the console change the meter, and is restarted on the same file: each answer that a client got must
 be in the journal, in order and once, and the restarted meter must answer as a model of the switch
 (tests/switch_model.py) that ran over the lines of the journal and never stopped. Also tested: torn
-ends of the file, files that are refused, a full disk, and each read, write and sync failing. Every
-wait has a time limit.
+ends of the file and the copies of them, files that are refused or damaged, links, the modes of the
+files, the sync of the folder at a restart, a full disk, and each read, write and sync failing.
+Every wait has a time limit. One test needs strace, and is skipped with a message if it is missing.
 
 usage: tests/journal.py [--long] [--seed N]
 
@@ -18,6 +19,7 @@ import os
 import pathlib
 import random
 import re
+import shutil
 import subprocess
 import sys
 import tempfile
@@ -28,9 +30,9 @@ sys.dont_write_bytecode = True  # importing the modules of tests/ leaves no file
 
 import serving
 from core_rows import NEW_METER
-from journal_history import (GONE, OPEN_COUNT, Console, Explanation, Journal, Talker, end_of_a_run,
-                             journal_with_events, lines_played, model_lines, restart, start_server,
-                             torn_tail, whole_lines)
+from journal_history import (CUT, GONE, LEFT_OUT, OPEN_COUNT, Console, Explanation, Journal, Talker,
+                             end_of_a_run, journal_with_events, lines_played, model_lines, restart,
+                             start_server, torn_tail, whole_lines)
 from refusing import Refusing, call_numbers
 from serving import (DEVICE, DISCONNECT, MANAGEMENT, MODE, PASSWORD, PATIENCE, PLAYER, PUBLIC,
                      RECONNECT, SERVER, STATE, Client, Server, check, free_port, is_part_of,
@@ -42,6 +44,7 @@ START = 0.015  # a server has begun to serve after about this time, in seconds
 LONGEST_START = 15  # it has on any machine
 SEED = 48
 JOURNAL_FAILED = "{}: the journal failed: "
+NOBODY = 65_534  # the user and the group without rights
 is_long, seed = False, SEED
 
 
@@ -81,7 +84,7 @@ def run_and_kill(journal, number, totals):
             thread.start()
         assert answered.wait(PATIENCE), "no answer"
         if choose.random() < 0.2:
-            meanwhile = lines_played(journal.path, journal.count)
+            meanwhile = lines_played(journal.path, journal.count, is_written=True)
         time.sleep(choose.uniform(0.002, 0.060))
         assert server.process.poll() is None, f"the server ended: {server.errors}"
     finally:
@@ -213,7 +216,8 @@ TAILS = {
     "zeros": bytes(700),
     "half a line and zeros": HALF + bytes(9),
     "a line with zeros in it": LINE[:12] + bytes(3) + LINE[15:],
-    "a whole line after zeros": bytes(2) + b"\n" + LINE,
+    "a line end after zeros": bytes(2) + b"\n",
+    "a line with zeros in it, its end and half a line": LINE[:12] + bytes(3) + LINE[15:] + HALF,
     "wrong bytes": b"\xff\r\t",
 }
 
@@ -280,6 +284,247 @@ def a_wrong_journal_is_refused(name, folder):
 BEGUN = "\n".join(["RELAYTRACE 2", "device 4D4554455237", *NEW_METER[2:], "events -", ""]).encode()
 
 
+# Bytes after whole lines that an interrupted write can't have left: a whole line follows a damaged
+# one.
+HOLED = LINE[:12] + bytes(3) + LINE[15:]
+DAMAGES = {
+    "a whole line after zeros": bytes(2) + b"\n" + LINE,
+    "a whole line after a line with zeros": HOLED + LINE,
+    "a whole line and a torn one after a line with zeros": HOLED + LINE + HALF,
+    "many lines after a line with zeros": HOLED + LINE * 300,
+    "a block of zeros with many lines after it": LINE * 20 + bytes(512) + LINE * 300,
+    "whole lines and a torn one after zeros": bytes(512) + LINE * 2 + HALF,
+}
+
+
+@in_folder
+def a_damaged_journal_is_refused(name, folder):
+    """Its later lines were answered: they must not be cut as those of an interrupted write. Once it
+    is cut where the server says, its meter continues."""
+    journal = journal_with_events(folder / "journal")
+    for what, tail in DAMAGES.items():
+        held = journal.text + tail
+        journal.path.write_bytes(held)
+        made = start_on(journal.path, "--stop-with-input")
+        whole = whole_lines(held)
+        why = (f"{journal.path}: damaged after byte {len(whole)}, and whole lines follow: "
+               "restore a copy, or keep this one and cut it there\nfault: input\n")
+        check(f"{name}: {what}", is_fault(made, 2, "input") and made[2] == why, made)
+        found = {it.name for it in folder.iterdir()}
+        check(f"{name}: {what}, unchanged", journal.path.read_bytes() == held
+              and found == {"journal", "journal.lock"}, found)
+        check(f"{name}: {what}, played", lines_played(journal.path) == model_lines(whole))
+        os.truncate(journal.path, len(whole))
+        journal.follow()
+        check(f"{name}: {what}, cut there", end_of_a_run(journal))
+
+
+@in_folder
+def what_is_cut_is_kept(name, folder):
+    """In FILE.cut, of the last start that cut anything; trace_player reports its length. A refused
+    journal leaves that as it is."""
+    journal, cut = journal_with_events(folder / "journal"), folder / "journal.cut"
+    check(f"{name}: nothing was cut", not cut.exists())
+    for what in ("half a line", "zeros", "half a line and zeros", "a line with zeros in it"):
+        tail = TAILS[what]
+        journal.path.write_bytes(journal.text + tail)
+        made = subprocess.run([str(PLAYER), str(journal.path)], capture_output=True, text=True,
+                              timeout=PATIENCE)
+        wanted = f"{LEFT_OUT.format(journal.path)}{len(tail)}\n"
+        check(f"{name}: {what}, played", (made.returncode, made.stderr) == (0, wanted), made)
+        server = start_server(journal.path)
+        status, _, errors = server.end()
+        check(f"{name}: {what}, reported",
+              status == 0 and CUT.format(journal.path, len(tail)) in errors, status, errors)
+        check(f"{name}: {what}, the journal", journal.path.read_bytes() == journal.text)
+        kept = cut.read_bytes() if cut.exists() else None
+        check(f"{name}: {what}, exactly these bytes", kept == tail, kept)
+    check(f"{name}: a start that cuts nothing",
+          start_server(journal.path).end()[0] == 0 and cut.read_bytes() == tail)
+    held = journal.text + HALF
+    journal.path.write_bytes(held)
+    for what, start in (("an older one", tail), ("none", None)):
+        if start is None:
+            cut.unlink()
+        made = start_on(journal.path, "--stop-with-input", "--device", "METER8")
+        kept = cut.read_bytes() if cut.exists() else None
+        check(f"{name}: a refused journal, {what}", is_fault(made, 2, "input")
+              and journal.path.read_bytes() == held and kept == start, made, kept)
+        check(f"{name}: a refused journal, {what}: no word of a cut",
+              "cut" not in made[2].replace(str(journal.path), ""), made)
+
+
+@in_folder
+def a_journal_of_version_1_is_refused(name, folder):
+    path = folder / "journal"
+    lines = [it for it in BEGUN.decode().splitlines() if not it.startswith("x")]
+    held = "".join(f"{it}\n" for it in ["RELAYTRACE 1", *lines[1:], "button"])
+    path.write_text(held)
+    made = start_on(path, "--stop-with-input", "--device", "METER7")
+    why = (f"{path}: expected a journal, a trace of version 2 with `events -`; found counted "
+           "events or version 1\nfault: input\n")
+    check(name, is_fault(made, 2, "input") and made[2] == why, made)
+    check(f"{name}: unchanged", path.read_text() == held)
+    check(f"{name}: it plays", len(lines_played(path)) == 1)
+
+
+def files_of_runs(folder, *options):
+    """Starts servers with a journal and a relay in a folder until each of their files is there.
+    Returns the modes of the files."""
+    path, relay = folder / "journal", ("--relay", str(folder / "relay"))
+    for tail in (b"", LINE * 300, HALF):
+        with open(path, "ab") if tail else open(os.devnull, "ab") as file:
+            file.write(tail)
+        server = Server("--journal", str(path), "--journal-limit", "4096", "--keep-journals", "1",
+                        "--depth", "1", "--stop-with-input", *relay, *options)
+        assert server.end()[0] == 0, server.errors
+    return {it.name: oct(it.stat().st_mode & 0o777) for it in folder.iterdir()}
+
+
+@in_folder
+def files_are_made_for_their_owner(name, folder):
+    """With any umask. (The journal has the mode of its draft, which was renamed.)"""
+    names = ("journal", "journal.1", "journal.cut", "relay")
+    before = os.umask(0o022)
+    try:
+        for which, (mode, options) in enumerate(((0o600, ()), (0o640, ("--group-readable",)))):
+            inner = folder / str(which)
+            inner.mkdir()
+            wanted = {**{it: oct(mode) for it in names}, "journal.lock": oct(0o600)}
+            found = files_of_runs(inner, *options)
+            check(f"{name}: {options}", found == wanted, found)
+    finally:
+        os.umask(before)
+
+
+# What a start prints of each file that is a symbolic link and is not replaced.
+NO_LINKS = {
+    "journal": "a symbolic link is not followed\n{}: reading, writing or syncing failed\n",
+    "journal.lock": "the lock file can't be opened and locked\n",
+    "relay": "the relay can't be opened for reading and writing: .*\n",
+}
+
+
+@in_folder
+def symbolic_links_are_not_followed(name, folder):
+    """Not as FILE, its lock, its draft, the bytes that are cut or the relay: what a link leads to
+    stays as it is."""
+    target, journal = folder / "target", journal_with_events(folder / "begun")
+    for what in (*NO_LINKS, "journal.new", "journal.cut"):
+        # (a link as FILE that leads nowhere has a test of its own)
+        for is_there in (True,) if what == "journal" else (True, False):
+            inner = folder / f"{what} {is_there}"
+            inner.mkdir()
+            path, link = inner / "journal", inner / what
+            held = journal.text + LINE * 300 + HALF
+            target.unlink(missing_ok=True)
+            if is_there:
+                target.write_bytes(held if what == "journal" else b"of another user\n")
+            if what != "journal":
+                path.write_bytes(held)
+            link.symlink_to(target)
+            made = start_on(path, "--stop-with-input", "--journal-limit", "4096", "--relay",
+                            str(inner / "relay"))
+            title = f"{name}: {what}, {'a target' if is_there else 'none'}"
+            after = target.read_bytes() if target.exists() else None
+            before = (held if what == "journal" else b"of another user\n") if is_there else None
+            check(f"{title}: untouched", after == before, after)
+            if what in NO_LINKS:
+                start, line = re.escape(f"{link}: "), NO_LINKS[what].format(re.escape(str(link)))
+                is_told = re.search(f"(?m)^{start}{line}fault: write\n\\Z", made[2])
+                check(f"{title}: refused", made[:2] == (3, "") and is_told, made)
+            else:
+                check(f"{title}: replaced", made[0] == 0, made)
+            check(f"{title}: the link", link.is_symlink() == (what in NO_LINKS))
+
+
+@in_folder
+def a_link_that_leads_nowhere_is_refused(name, folder):
+    """As FILE: a new meter would be connected, whatever the journal of the missing target has."""
+    path, target = folder / "journal", folder / "target"
+    path.symlink_to(target)
+    made = start_on(path, "--stop-with-input")
+    line = f"{path}: {NO_LINKS['journal'].format(path)}fault: write\n"
+    check(name, made == (3, "", line), made)
+    check(f"{name}: the link stays", path.is_symlink() and not target.exists())
+
+
+@in_folder
+def another_user_has_no_lock(name, folder):
+    """A user who could open the lock could hold it, so that no server starts."""
+    if os.geteuid():
+        print("SKIPPED the lock for another user: only root can be another user")
+        return
+    journal_with_events(folder / "journal")
+    folder.chmod(0o755)  # (so that the mode of the file alone keeps others out)
+    (folder / "open").touch(0o644)
+    for path, wanted in (("open", True), ("journal.lock", False), ("journal", False)):
+        made = subprocess.run(["sh", "-c", 'exec < "$1"', "sh", folder / path], user=NOBODY,
+                              group=NOBODY, extra_groups=[], capture_output=True, text=True)
+        check(f"{name}: {path}", (made.returncode == 0) == wanted
+              and (wanted or "ermission denied" in made.stderr), made)
+
+
+CALLS = "openat,fsync,fdatasync,write,writev,sendto,sendmsg"
+
+
+@in_folder
+def a_restart_syncs_its_folder_first(name, folder):
+    """A killed server may have renamed its draft and not synced the folder: until that is done, a
+    power cut could take the answers of the next server with the name of its journal."""
+    if not shutil.which("strace"):
+        print("SKIPPED the calls of a restart: strace is missing (Debian: apt-get install strace)")
+        return
+    journal, log = journal_with_events(folder / "journal"), folder / "calls"
+    killed, _ = restart(journal)
+    killed.stop()
+    server = Server.__new__(Server)
+    server.port = free_port()
+    server.start(["strace", "-f", "-yy", "-o", str(log), "-e", f"trace={CALLS}", str(SERVER),
+                  "serve", "--verbose", "--password", PASSWORD, "--stop-with-input", "--listen",
+                  f"127.0.0.1:{server.port}", "--journal", str(journal.path)])
+    check(f"{name}: starts", server.wait_for(b"listening on"), server.errors)
+    client = server.client()
+    check(f"{name}: is answered", client.set(MODE, "1602") == "code 0")
+    client.close()
+    status, _, errors = server.end()
+    check(f"{name}: end", status == 0, status, errors)
+    calls = [line.split(None, 1)[1] for line in log.read_text().splitlines()]
+
+    def places_of(pattern):
+        return [at for at, it in enumerate(calls) if re.match(pattern, it)]
+
+    answers = places_of(r"\w+\(\d+<TCP:")
+    syncs = places_of(rf"fsync\(\d+<{re.escape(os.path.realpath(folder))}>(\) += 0$| <unfinished)")
+    check(f"{name}: before the first answer", answers and syncs and syncs[0] < answers[0],
+          syncs, answers, len(calls))
+
+
+@in_folder
+def a_killed_renewal_loses_no_kept_journal(name, folder):
+    """A kill between the link of FILE.1 and the rename of the draft: the next renewal continues
+    there, and the journals before it keep their names."""
+    journal = journal_with_events(folder / "journal")
+    path, oldest = journal.path, journal.text + LINE * 100
+    held = journal.text + LINE * 300
+    for kept in (1, 2, 3):
+        path.write_bytes(held)
+        first = folder / "journal.1"
+        first.unlink(missing_ok=True)
+        os.link(path, first)
+        for number in range(2, kept + 1):
+            (folder / f"journal.{number}").write_bytes(oldest + LINE * number)
+        (folder / "journal.new").write_bytes(journal.text[:200])
+        server = start_server(path, "--depth", "1", "--keep-journals", str(kept), limit=4096)
+        status = server.end()[0]
+        found = {it: (folder / f"journal.{it}").read_bytes() for it in range(1, kept + 1)}
+        wanted = {1: held, **{it: oldest + LINE * it for it in range(2, kept + 1)}}
+        wrong = [it for it in wanted if found[it] != wanted[it]]
+        check(f"{name}: {kept} kept", status == 0 and not wrong, status, wrong)
+        check(f"{name}: {kept} kept: renewed", path.read_bytes() != held
+              and not (folder / "journal.new").exists() and path.stat().st_nlink == 1)
+
+
 @in_folder
 def another_meter_is_refused(name, folder):
     path = folder / "journal"
@@ -324,9 +569,10 @@ def a_locked_file_is_refused(name, folder):
     for path in (journal.path, draft):
         with open(path, "rb+") as file:
             fcntl.flock(file, fcntl.LOCK_EX)
-            made = start_on(journal.path, "--journal-limit", "4096")
+            made = start_on(journal.path, "--journal-limit", "4096", "--stop-with-input")
         check(f"{name}: {path.name}", is_fault(made, 3, "write"), made)
-        check(f"{name}: {path.name}, unchanged", journal.path.read_bytes() == held)
+        check(f"{name}: {path.name}, unchanged", journal.path.read_bytes() == held
+              and draft.exists() and draft.read_bytes() == b"left by a crash\n")
     status = start_server(journal.path, limit=4096).end()[0]
     check(f"{name}: then it is renewed",
           status == 0 and journal.path.read_bytes() != held and not draft.exists(), status)
@@ -431,6 +677,9 @@ def a_journal_begins_from_a_trace(name, folder):
           sorted(journal.follow()) == sorted([client.seen[1][0], "moment 400"]), journal.text)
     server, client = restart(journal, "--resume", console=trace)
     check(f"{name}: the journal has precedence", client.get(STATE) == "value 1601")
+    line = (f"warning: the trace of --resume is not used: the meter resumes from the journal "
+            f"{journal.path}\n")
+    check(f"{name}: with a warning", server.errors.decode().count(line) == 1, server.errors)
     client.close()
     check(f"{name}: its end", server.end()[0] == 0 and journal.follow() == [], journal.text)
 
@@ -695,6 +944,10 @@ TESTS = (a_journal_changes_no_answer, an_answer_has_its_line, a_torn_end_is_cut,
          a_wrong_journal_is_refused, another_meter_is_refused, one_server_has_a_journal,
          a_locked_file_is_refused, a_journal_needs_its_folder, a_journal_begins_from_a_trace,
          a_journal_is_renewed, a_long_journal_is_renewed_at_a_start, the_last_journals_are_kept,
+         a_damaged_journal_is_refused, what_is_cut_is_kept, a_journal_of_version_1_is_refused,
+         files_are_made_for_their_owner, symbolic_links_are_not_followed,
+         a_link_that_leads_nowhere_is_refused, another_user_has_no_lock,
+         a_restart_syncs_its_folder_first, a_killed_renewal_loses_no_kept_journal,
          a_start_may_be_killed,
          killed_servers_lose_no_answer, a_full_disk_ends_the_server,
          a_failed_sync_is_never_answered, a_failed_read_or_write_loses_no_answer,

@@ -17,7 +17,11 @@ SUPPLY = (*SWITCH, 2)
 SHOWN = (STATE, SUPPLY, MODE, REGISTER)
 OPEN_COUNT = "events -"
 GONE = (Vanished, OSError)
-CUT = "cut {} bytes of an interrupted write\n"
+# The lines of a server about the bytes that it cut, and that of trace_player about those that it
+# leaves out.
+CUT = ("{0}: cut {1} bytes of an interrupted write\n"
+       "{0}: the bytes that were cut are in {0}.cut\n")
+LEFT_OUT = "{}: bytes after the last whole line that were left out: "
 
 
 def whole_lines(held):
@@ -68,11 +72,23 @@ class Journal:
                    for place in SHOWN)
 
 
-def lines_played(path, skip=0):
+def left_out_of(path):
+    """What trace_player must report of the bytes of a file after its whole lines."""
+    held = path.read_bytes()
+    count = len(held) - len(whole_lines(held))
+    return f"{LEFT_OUT.format(path)}{count}\n" if count else ""
+
+
+def lines_played(path, skip=0, is_written=False):
     """The lines that trace_player prints of a file after the first ones, without the counts of
-    firings."""
+    firings. While the file is written (`is_written`), the end that was left out has any length."""
     made = subprocess.run([str(PLAYER), str(path)], capture_output=True, timeout=PATIENCE)
-    assert (made.returncode, made.stderr) == (0, b""), (made.returncode, made.stderr)
+    errors = made.stderr.decode()
+    if is_written:
+        is_told = re.fullmatch(f"({re.escape(LEFT_OUT.format(path))}[1-9]\\d*\n)?", errors)
+    else:
+        is_told = errors == left_out_of(path)
+    assert made.returncode == 0 and is_told, (made.returncode, errors)
     count = made.stdout.count(b"\n")
     assert count >= skip, f"{count} lines were played, {skip} before"
     lines = (b"\n" + made.stdout).rsplit(b"\n", count - skip + 1)[1:-1]
@@ -113,13 +129,23 @@ def check_restart(journal, server, tail):
         assert journal.new_lines() == [], "a new journal has events"
     held = journal.path.read_bytes()
     assert held == journal.text, f"after the restart: {held[-80:]!r}"
-    told = f"{journal.path}: {CUT.format(len(tail))}"
+    told = CUT.format(journal.path, len(tail))
     assert errors.count("interrupted write") == errors.count(told) == (tail != b""), errors
+    if tail:
+        check_cut_bytes(journal.path, tail)
     client = server.client()
     is_shown = journal.is_shown_by(client)
     assert is_shown, f"not as the model: {client.seen}, {vars(journal.model)}"
     client.seen = []
     return client
+
+
+def check_cut_bytes(path, tail):
+    """Fails if the file next to a journal does not have the bytes that were cut, for its owner
+    alone."""
+    cut = path.with_name(f"{path.name}.cut")
+    held, mode = cut.read_bytes(), cut.stat().st_mode & 0o777
+    assert (held, mode) == (tail, 0o600), f"{cut}: {held!r}, not {tail!r}, mode {mode:o}"
 
 
 def end_of_a_run(journal):
@@ -149,13 +175,13 @@ def journal_with_events(path):
 
 def torn_tail(choose):
     """What a crash of the machine may leave of lines that were not synced: a front of their bytes,
-    in which some are 0. No line of it is whole."""
+    in which some are 0. At most one line of it ends, so that a server cuts it."""
     line = choose.choice((b"set 1 70 000060030AFF 4 0 1604", b"button", b"samples 10 20 30"))
     half = line[:choose.randrange(1, len(line) + 1)]
     at = choose.randrange(len(line))
     holed = line[:at] + b"\0" + line[at + 1:]
     zeros = bytes(choose.randrange(1, 600))
-    return choose.choice((half, zeros, holed, holed + b"\n" + line + b"\n"))
+    return choose.choice((half, zeros, holed, holed + b"\n", holed + b"\n" + half))
 
 
 class Talker(threading.Thread):

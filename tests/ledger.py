@@ -3,9 +3,10 @@
 against scripted meters that count what they receive are killed at random times, and run again on
 the same ledger until they are whole: no meter may get a second command, each command must have its
 mark in the ledger, no outcome may be lost, and SQLite must find each ledger that a kill left whole.
-Also tested: ledgers and lists that are refused, two runs at once, meters that were down, the order
-of one meter's jobs, meters with passwords of their own, meters that are asked for their states, a
-full disk, and each failing read, write and sync. Every wait has a time limit.
+Also tested: ledgers and lists that are refused, ledgers without their log, empty ones, two runs at
+once, meters that were down, the order of one meter's jobs, meters with passwords of their own,
+meters that are asked for their states, a full disk, and each failing read, write and sync. Every
+wait has a time limit.
 
 usage: tests/ledger.py [--long] [--seed N]
 
@@ -26,13 +27,15 @@ import sqlite3
 import subprocess
 import sys
 import tempfile
+import threading
 import time
 
 sys.dont_write_bytecode = True  # importing the modules of tests/ leaves no files
 
 import serving
+from core_rows import NEW_METER
 from counted_meters import COMMANDS, CountedMeters, kind_of
-from journal import SmallDisk, in_folder
+from journal import NOBODY, SmallDisk, in_folder
 from refusing import Refusing, call_numbers
 from scripted_meters import CROWD, REQUESTS, ScriptedMeter, answer_to, answers_slowly
 from scripted_meters import closes_without_answer, does_it
@@ -282,6 +285,18 @@ def killed_campaigns_command_nobody_twice(name, folder):
     check(f"{name}: enough kills", totals["kills"] >= campaigns, totals)
 
 
+def log_of(ledger):
+    """The path of SQLite's log of a ledger."""
+    return ledger.with_name(f"{ledger.name}-wal")
+
+
+def without_log(ledger):
+    """What `run`, `status` and `ask` print of a ledger without its log."""
+    return Ran(2, "", f"ledger: {log_of(ledger)} is missing, which may have marks of a killed run: "
+                      "put it back (if the last run ended in order, an empty file will do)\n"
+                      "fault: input\n")
+
+
 def is_refused(ran):
     """Whether a run was refused before it began: with the line of a fault, and no report."""
     has_line = re.search(r"(?m)^fault: [a-z]+$", ran.errors)
@@ -329,6 +344,8 @@ def what_is_no_ledger_is_refused(name, folder):
             check(f"{name}: {what}: no command", not any(campaign.take_commands()))
             after = file.read_bytes() if file.is_file() else None
             check(f"{name}: {what}: unchanged", before == after)
+        others = sorted(it.name for it in folder.iterdir())
+        check(f"{name}: nothing is made", others == ["folder", "other", "text"], others)
 
 
 # What no ledger has: marks, outcomes and campaigns that are none.
@@ -361,6 +378,7 @@ def damaged_ledgers_are_refused(name, folder):
             with contextlib.closing(sqlite3.connect(copy)) as database:
                 changed = database.execute(statement).rowcount
                 database.commit()
+            log_of(copy).touch()  # (SQLite has removed it at the close)
             check(f"{name}: {what}: is damaged", changed == 1, changed)
             for command in (run, status):
                 ran = command(copy, campaign.text) if command is run else command(copy)
@@ -484,10 +502,11 @@ def state_of(found):
     return "".join(f"{line}\n" for line in lines)
 
 
-def status(ledger):
-    """Runs `head_end status` on a ledger."""
-    ran = subprocess.run([str(HEAD_END), "status", "--ledger", str(ledger)], capture_output=True,
-                         stdin=subprocess.DEVNULL, text=True, timeout=LONGEST)
+def status(ledger, before=(), program=HEAD_END, environment=None):
+    """Runs `head_end status` on a ledger, by the command `before` if there is one."""
+    words = [*before, str(program), "status", "--ledger", str(ledger)]
+    ran = subprocess.run(words, capture_output=True, stdin=subprocess.DEVNULL, text=True,
+                         timeout=LONGEST, env=environment)
     return Ran(ran.returncode, ran.stdout, ran.stderr)
 
 
@@ -634,24 +653,228 @@ def other_files_of_answers_are_refused(name, folder):
     meter.stop()
 
 
+def texts_of(folder):
+    """The bytes of the files in a folder, but for those that SQLite adds."""
+    return {it.name: it.read_bytes() for it in folder.iterdir() if it.is_file()
+            and not it.name.endswith((".lock", "-wal", "-shm"))}
+
+
 @in_folder
 def what_has_no_state_is_refused(name, folder):
     (folder / "text").write_text("a report\n" * 1000)
-    (folder / "empty").write_text("")
     with contextlib.closing(sqlite3.connect(folder / "other")) as database:
         database.execute("CREATE TABLE meter (name TEXT)")
         database.commit()
     (folder / "folder").mkdir()
-    files = {"text": ("not a ledger", "input", 2), "empty": ("not a ledger", "input", 2),
-             "other": ("not a ledger", "input", 2), "folder": ("can't open the file", "read", 3),
+    files = {"text": ("not a ledger", "input", 2), "other": ("not a ledger", "input", 2),
+             "folder": ("can't open the file", "read", 3),
              "missing": ("can't open the file", "read", 3)}
-    before = {it.name: it.read_bytes() for it in folder.iterdir() if it.is_file()}
+    before = texts_of(folder)
+    ran = status(folder / "other")
+    check(f"{name}: other, without a log", ran == without_log(folder / "other"), ran)
+    log_of(folder / "other").touch()
     for what, (reason, word, code) in files.items():
         ran = status(folder / what)
         check(f"{name}: {what}", ran == (code, "", f"ledger: {reason}\nfault: {word}\n"), ran)
-    after = {it.name: it.read_bytes() for it in folder.iterdir() if it.is_file()
-             and not it.name.endswith((".lock", "-wal", "-shm"))}
+    after = texts_of(folder)
     check(f"{name}: unchanged", before == after, sorted(after))
+
+
+def copy_alone(ledger, folder):
+    """Copies the file of a ledger without its log into a new folder, and returns the copy."""
+    folder.mkdir()
+    return pathlib.Path(shutil.copy(ledger, folder / "ledger"))
+
+
+@contextlib.contextmanager
+def killed_run(name, ledger):
+    """A run on a ledger that was killed when its second meter had received its command, and the
+    first had done its own. Gives the jobs and the meters, which answer later requests."""
+    is_commanded = threading.Event()
+
+    def waits(talk):
+        request = talk.open()
+        if is_commanded.is_set():
+            talk.send(answer_to(request))
+        is_commanded.set()
+
+    meters = [ScriptedMeter(does_it), ScriptedMeter(waits)]
+    jobs = [(f"m{number}", f"127.0.0.1:{it.port}", "disconnect")
+            for number, it in enumerate(meters)]
+    process = subprocess.Popen(words_of(ledger, 1), stdin=subprocess.PIPE, text=True,
+                               stdout=subprocess.DEVNULL, stderr=subprocess.DEVNULL)
+    try:
+        process.stdin.write(text_of(jobs))
+        process.stdin.close()
+        check(f"{name}: the second command", is_commanded.wait(PATIENCE))
+    finally:
+        process.kill()
+        process.wait()
+    try:
+        for meter in meters:
+            meter.wait_for_talks(1)
+        yield jobs, meters
+    finally:
+        for meter in meters:
+            meter.stop()
+
+
+@in_folder
+def a_ledger_without_its_log_is_refused(name, folder):
+    """The marks of a killed run are in the log alone: without it the commands would be sent again.
+    Once the log is back, the campaign continues."""
+    ledger = folder / "ledger"
+    with killed_run(name, ledger) as (jobs, meters):
+        copy = copy_alone(ledger, folder / "alone")
+        held, marks = copy.read_bytes(), entries(ledger)
+        for what, command in (("run", lambda it: run(it, text_of(jobs))), ("status", status),
+                              ("ask", ask)):
+            ran = command(copy)
+            check(f"{name}: {what}", ran == without_log(copy), ran)
+        talks = [len(it.talks) for it in meters]
+        check(f"{name}: no meter is called", talks == [1, 1], talks)
+        names = [it.name for it in copy.parent.iterdir()]
+        check(f"{name}: no file is made", names == ["ledger"] and copy.read_bytes() == held, names)
+        shutil.copy(folder / "ledger-wal", copy.parent)
+        ran = run(copy, text_of(jobs))
+        wanted = report_of(jobs, ["done 0", "unknown"])
+        check(f"{name}: with its log", ran[:2] == (0, wanted) and marks.begun == {0, 1}, ran, marks)
+        log_of(copy).unlink()
+        ran = run(copy, text_of(jobs))
+        check(f"{name}: after a run that ended in order", ran == without_log(copy), ran)
+        log_of(copy).touch()
+        ran = run(copy, text_of(jobs))
+        check(f"{name}: then with an empty log", ran[:2] == (0, wanted), ran)
+        talks = [len(it.talks) for it in meters]
+        check(f"{name}: with its log no meter is called", talks == [1, 1], talks)
+
+
+@in_folder
+def a_ledger_has_its_list_before_a_command(name, folder):
+    """A kill right after the first commands leaves the list of jobs in the file itself."""
+    ledger = folder / "ledger"
+    with killed_run(name, ledger) as (jobs, _):
+        copy = copy_alone(ledger, folder / "alone")
+        with contextlib.closing(sqlite3.connect(f"file:{copy}?immutable=1", uri=True)) as database:
+            try:
+                found = database.execute(TABLES["job"]).fetchall()
+            except sqlite3.DatabaseError as error:
+                found = error
+        check(f"{name}: the list", found == jobs, found)
+
+
+@in_folder
+def an_empty_file_is_a_ledger_of_no_run(name, folder):
+    """As a part of a campaign leaves it that was ended before it began."""
+    ledger = folder / "ledger"
+    ledger.touch()
+    counts = "".join(f"{it} 0\n" for it in ("jobs", "done", "refused", "rejected", "unknown",
+                                            "not sent"))
+    for command, wanted in ((status, counts), (ask, "")):
+        ran = command(ledger)
+        check(f"{name}: {command.__name__}", ran == (0, wanted, ""), ran)
+        names = [it.name for it in folder.iterdir()]
+        check(f"{name}: {command.__name__}: nothing is written",
+              names == ["ledger"] and ledger.read_bytes() == b"", names)
+    with running_meters(4) as meters:
+        campaign = Campaign(meters, lambda place: "disconnect")
+        history, ran = History(campaign), run(ledger, campaign.text)
+        history.follow(ledger, 0)
+        history.check_end(f"{name}: run", ran)
+
+
+def make_half_made_ledgers(folder):
+    """Returns what a run that was killed while it made its ledger leaves at the ledger's path: a
+    byte, and a page whose first byte is not written yet."""
+    path = folder / "page"
+    with contextlib.closing(sqlite3.connect(path)) as database:
+        database.execute("PRAGMA journal_mode = wal")
+    page = path.read_bytes()
+    path.unlink()
+    return {"a byte": b"\0", "a page without its first byte": b"\0" + page[1:]}
+
+
+@in_folder
+def a_ledger_that_a_killed_run_half_made_is_completed(name, folder):
+    """The log next to it has its header alone: no job was marked, so no meter was called."""
+    log = bytes.fromhex("377f0682002de21800001000ffffffff01000000"
+                        "0cc2eeffd4e703138cbd9cc3") + bytes(9)
+    for what, text in make_half_made_ledgers(folder).items():
+        (ledger := folder / "ledger").write_bytes(text)
+        log_of(ledger).write_bytes(log)
+        with running_meters(4) as meters:
+            campaign = Campaign(meters, lambda place: "disconnect")
+            history, ran = History(campaign), run(ledger, campaign.text)
+            history.follow(ledger, 0)
+            history.check_end(f"{name}: {what}", ran)
+        ledger.unlink()
+        log_of(ledger).unlink(missing_ok=True)
+
+
+# Commands that run another one as a user who may only read, and with a folder that may.
+OTHER_USER = ("setpriv", f"--reuid={NOBODY}", f"--regid={NOBODY}", "--clear-groups")
+READ_ONLY = ("unshare", "--mount", "sh", "-c", 'mount --bind "$1" "$1" && '
+             'mount -o remount,bind,ro "$1" && shift && exec "$@"', "sh")
+
+
+def check_is_shown(name, what, ledger, wanted, before, temporary):
+    """Checks that a status by a user who may not write to the ledger is this one, and that it
+    leaves nothing, neither next to the ledger nor in the temporary folder."""
+    held = {it.name: it.read_bytes() for it in ledger.parent.iterdir()}
+    ran = status(ledger, before, ledger.parent.parent / "head_end",
+                 {**os.environ, "TMPDIR": str(temporary)})
+    check(f"{name}: {what}", ran == (0, wanted, ""), ran, wanted)
+    after = {it.name: it.read_bytes() for it in ledger.parent.iterdir()}
+    check(f"{name}: {what}: nothing is written", held == after, sorted(held), sorted(after))
+    left = [it.name for it in temporary.iterdir()]
+    check(f"{name}: {what}: the copy is removed", left == [], left)
+
+
+@in_folder
+def a_ledger_that_may_only_be_read_is_shown(name, folder):
+    """With the marks of a killed run, which are in the log alone, and with the answers."""
+    inner, temporary = folder / "inner", folder / "temporary"
+    ways = {"another user": OTHER_USER, "a read-only mount": (*READ_ONLY, str(inner))}
+    for path in (inner, temporary):
+        path.mkdir()
+    if os.geteuid() or not all(map(shutil.which, ("setpriv", "unshare"))):
+        print("SKIPPED a ledger that may only be read: only root can be another user, by setpriv "
+              "and unshare (Debian: apt-get install util-linux)")
+        return
+    if subprocess.run([*READ_ONLY, str(inner), "true"], capture_output=True).returncode:
+        print("SKIPPED a read-only mount: none can be made in a mount namespace")
+        del ways["a read-only mount"]
+    shutil.copy(HEAD_END, folder / "head_end")
+    folder.chmod(0o755)
+    temporary.chmod(0o777)
+    with killed_run(name, inner / "ledger") as (jobs, _):
+        found = entries(inner / "ledger")
+        check(f"{name}: its marks", found.begun == {0, 1}, found)
+        for path in inner.iterdir():
+            path.chmod(0o644)
+        for what, before in ways.items():
+            check_is_shown(name, what, inner / "ledger", state_of(found), before, temporary)
+        ran = ask(inner / "ledger")
+        check(f"{name}: is asked", ran.status == 0, ran)
+        for path in inner.iterdir():
+            path.chmod(0o644)
+        state = ran.report.split()[-1]
+        wanted = with_states(state_of(found), {jobs[1][0]: state})
+        for what, before in ways.items():
+            title = f"{what}, with answers"
+            check_is_shown(name, title, inner / "ledger", wanted, before, temporary)
+
+
+@in_folder
+def what_is_no_ledger_gets_no_log(name, folder):
+    """A trace that is given by mistake has no further file next to it."""
+    trace, text = folder / "000001.trace", "".join(f"{it}\n" for it in (*NEW_METER, "events 0"))
+    trace.write_text(text)
+    for command in (status, ask, lambda it: run(it, "m1 127.0.0.1:1 state\n")):
+        ran = command(trace)
+        check(f"{name}: refused", ran == (2, "", "ledger: not a ledger\nfault: input\n"), ran)
+        names = [it.name for it in folder.iterdir()]
+        check(f"{name}: no file", names == [trace.name] and trace.read_text() == text, names)
 
 
 def namespace_command(disk):
@@ -759,6 +982,9 @@ TESTS = (a_ledger_changes_no_row, killed_campaigns_command_nobody_twice, another
          each_meter_has_its_password, the_state_is_that_of_the_ledger,
          meters_without_an_answer_are_asked, nothing_to_ask_changes_nothing,
          other_files_of_answers_are_refused, what_has_no_state_is_refused,
+         a_ledger_without_its_log_is_refused, a_ledger_has_its_list_before_a_command,
+         an_empty_file_is_a_ledger_of_no_run, a_ledger_that_a_killed_run_half_made_is_completed,
+         a_ledger_that_may_only_be_read_is_shown, what_is_no_ledger_gets_no_log,
          a_full_disk_stops_the_commands,
          a_failed_call_commands_nobody_twice)
 

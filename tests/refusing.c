@@ -5,7 +5,8 @@
  * the accept. When standard input ends or fails, and when the program ends, a line of numbers is
  * written to the file REFUSING_REPORT: allocations, reads and writes, writes to the failed stream or
  * file after its failure, connections, started threads, and syncs. Writes to standard error are not
- * counted and never fail. */
+ * counted and never fail, and neither are the reads and writes of a pair of sockets, the queue of a
+ * server's log: FAIL_LOG has the number of the one of these that fails. */
 
 typedef unsigned long size;
 typedef long count;
@@ -18,13 +19,13 @@ extern int *__errno_location(void);
 extern char *getenv(const char *);
 extern void *dlsym(void *, const char *);
 
-enum { READ = 0, WRITE = 1, OPEN = 2, CLOSE = 3, WRITEV = 20, CONNECT = 42, SENDTO = 44, RECVFROM = 45, SENDMSG = 46, FSYNC = 74, FDATASYNC = 75, EXIT_GROUP = 231, ACCEPT4 = 288 };
+enum { READ = 0, WRITE = 1, OPEN = 2, CLOSE = 3, WRITEV = 20, CONNECT = 42, SENDTO = 44, RECVFROM = 45, SENDMSG = 46, SOCKETPAIR = 53, FSYNC = 74, FDATASYNC = 75, EXIT_GROUP = 231, ACCEPT4 = 288 };
 enum { INTERRUPTED = 4, FAILED = 5, TRY_AGAIN = 11, NO_MEMORY = 12 };
 enum { STANDARD_INPUT = 0, STANDARD_ERROR = 2, NONE = -1 };
 
-static size refused, refused_thread, failing, shortened, interrupted, failing_sync, failing_accept, accept_error;
-static size allocations, streams, late, connections, threads, syncs, accepts;
-static int failed = NONE;
+static size refused, refused_thread, failing, shortened, interrupted, failing_sync, failing_accept, accept_error, failing_log;
+static size allocations, streams, logged, late, connections, threads, syncs, accepts;
+static int failed = NONE, log_end = NONE, log_start = NONE;
 
 static size number(const char *name) {
     const char *text = getenv(name);
@@ -42,6 +43,7 @@ __attribute__((constructor)) static void begin(void) {
     failing_sync = number("FAIL_SYNC");
     failing_accept = number("FAIL_ACCEPT");
     accept_error = number("ACCEPT_ERROR");
+    failing_log = number("FAIL_LOG");
 }
 
 static char *digits(char *end, size value) {
@@ -98,6 +100,11 @@ int pthread_create(void *thread, const void *attributes, void *(*work)(void *), 
  * fail. */
 static count allowed(int file, size bytes, int is_write) {
     if (file == STANDARD_ERROR) return (count)bytes;
+    if (file == log_start || file == log_end) {
+        if (__sync_add_and_fetch(&logged, 1) != failing_log) return (count)bytes;
+        *__errno_location() = FAILED;
+        return -1;
+    }
     if (is_write && file == failed) __sync_add_and_fetch(&late, 1);
     size turn = __sync_add_and_fetch(&streams, 1);
     if (turn == shortened && bytes > 1) return 1;
@@ -171,7 +178,17 @@ int connect(int file, const void *peer, unsigned length) {
     return (int)syscall(CONNECT, file, peer, length);
 }
 
+int socketpair(int domain, int type, int protocol, int ends[2]) {
+    int made = (int)syscall(SOCKETPAIR, domain, type, protocol, ends);
+    if (made < 0) return made;
+    log_start = ends[0];
+    log_end = ends[1];
+    return made;
+}
+
 int close(int file) {
     if (file == failed) failed = NONE;
+    if (file == log_start) log_start = NONE;
+    if (file == log_end) log_end = NONE;
     return (int)syscall(CLOSE, file);
 }

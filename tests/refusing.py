@@ -55,8 +55,8 @@ class Refusing:
 
     def environment(self, **which):
         """The environment in which one call is refused: `refuse_memory`, `refuse_thread`,
-        `fail_stream`, `short_stream`, `interrupt_stream`, `fail_sync` or `fail_accept`, with the
-        number of the call; `accept_error` is the error of the last."""
+        `fail_stream`, `short_stream`, `interrupt_stream`, `fail_sync`, `fail_log` or `fail_accept`,
+        with the number of the call; `accept_error` is the error of the last."""
         self.report.unlink(missing_ok=True)
         named = {name.upper(): str(number) for name, number in which.items()}
         return {"LD_PRELOAD": str(self.library), "REFUSING_REPORT": str(self.report), **named}

@@ -1,14 +1,17 @@
 #!/usr/bin/env python3
 """Tests bin/meter_service over the proved executables that the gate left, with clients on the
-loopback interface: what is stored when it ends, what the next run resumes from, and what is known
-after a kill. The service files of share/ are tested with runit's runsv and with systemd-analyze;
-each is skipped with a message if it is not installed (Debian: apt-get install runit systemd).
+loopback interface: what is stored when it ends, what the next run resumes from, which journals it
+refuses, what is known after a kill, and a log that nobody reads. The service files of share/ are
+tested with runit's runsv and with systemd-analyze; each is skipped with a message if it is not
+installed (Debian: apt-get install runit systemd).
 
 usage: tests/service.py
 """
 import os
+import re
 import shutil
 import signal
+import socket
 import subprocess
 import sys
 import tempfile
@@ -18,22 +21,24 @@ from pathlib import Path
 sys.dont_write_bytecode = True
 sys.path.insert(0, str(Path(__file__).resolve().parent))
 import serving
-from serving import DISCONNECT, MODE, PASSWORD, PATIENCE, STATE, check, wait_until
+from serving import (DISCONNECT, MODE, PASSWORD, PATIENCE, RECONNECT, SHORT, SHORT_END, STATE,
+                     check, wait_until)
 
 TOP = Path(__file__).resolve().parent.parent
 SERVICE = TOP / "bin" / "meter_service"
 UNIT = TOP / "share" / "systemd" / "meter_server.service"
 RUNIT = TOP / "share" / "runit" / "meter_server"
 ENVIRONMENT = {**os.environ, "METER_PASSWORD": PASSWORD}
+UNREAD_ROUNDS = 2  # of wrong passwords: they fill the pipes of the server and of the service
 
 
 class Service(serving.Server):
     """A running meter_service and its folder."""
 
-    def __init__(self, folder, *options, port=None, server=serving.SERVER):
+    def __init__(self, folder, *options, port=None, server=serving.SERVER, **more):
         self.folder, self.port = folder, port or serving.free_port()
         words = [SERVICE, "--server", str(server), folder, "--listen", f"127.0.0.1:{self.port}"]
-        self.start([*words, *options], ENVIRONMENT, subprocess.DEVNULL)
+        self.start([*words, *options], ENVIRONMENT, subprocess.DEVNULL, **more)
         self.wait_for(b"listening on")
 
     def write(self, text):
@@ -60,6 +65,10 @@ class Service(serving.Server):
                 self.process.kill()
 
 
+class UnreadService(serving.Unread, Service):
+    """A running meter_service whose log nobody reads."""
+
+
 def in_folder(function):
     """A test with an empty folder."""
     def run_test(name):
@@ -73,6 +82,11 @@ def server_of(service):
     """The process of a service's server."""
     words = ["ps", "-o", "pid=", "--ppid", str(service.process.pid)]
     return int(subprocess.run(words, capture_output=True, text=True).stdout.split()[0])
+
+
+def stored_in(folder):
+    """The last trace and the journal of its run, a line each, as the folder has them."""
+    return (folder / "stored").read_text()
 
 
 def names_of(folder):
@@ -90,7 +104,9 @@ def a_run_is_stored_and_resumed(name, folder):
     status, errors = service.ends()
     check(f"{name}: ends", status == 0 and "stored" in errors, status, errors)
     check(f"{name}: what the folder has",
-          names_of(folder) == ["console", "traces", "traces/000001.trace"], names_of(folder))
+          names_of(folder) == ["console", "stored", "traces", "traces/000001.trace"],
+          names_of(folder))
+    check(f"{name}: the trace that is stored", stored_in(folder) == "000001.trace\n\n")
     check(f"{name}: the trace",
           serving.is_part_of(client.seen, serving.play_trace(service.trace(1))))
     for number, sent in ((2, signal.SIGINT), (3, signal.SIGHUP)):
@@ -201,6 +217,26 @@ def a_killed_server_has_its_journal(name, folder):
 
 
 @in_folder
+def files_are_for_the_user_or_the_group(name, folder):
+    for options, mode in (((), 0o600), (("--group-readable",), 0o640)):
+        here = folder.with_name(f"meter {mode:o}")
+        service = Service(here, "--journal", str(here / "journal"), "--relay", str(here / "supply"),
+                          *options)
+        client = service.client()
+        check(f"{name}: mode {mode:o}", client.set(MODE, "1601") == "code 0")
+        client.close()
+        modes = modes_of(here)
+        check(f"{name}: the console", modes.pop("console", None) == 0o620)
+        locks = {modes.pop(it, None) for it in ("journal.lock",)}
+        check(f"{name}: {mode:o} of a run",
+              set(modes.values()) == {mode} and locks == {0o600}, modes)
+        check(f"{name}: ends", service.ends()[0] == 0)
+        modes = modes_of(here)
+        stored = {modes.get(it) for it in ("stored", "traces/000001.trace")}
+        check(f"{name}: {mode:o} of what is stored", stored == {mode}, modes)
+
+
+@in_folder
 def a_killed_service_is_recovered(name, folder):
     service = Service(folder)
     client = service.client()
@@ -256,6 +292,193 @@ def a_full_disk_keeps_the_marker(name, folder):
           (folder / "running").exists() and not list((folder / "traces").iterdir()))
 
 
+@in_folder
+def a_log_that_is_not_read_stops_nothing(name, folder):
+    relay = folder.with_name("relay")
+    service = UnreadService(folder, "--relay", str(relay))
+    client = service.client()
+    check(f"{name}: prepared", serving.prepare_switching(client))
+    for _ in range(UNREAD_ROUNDS):
+        service.fill_log()
+    check(f"{name}: the pipe is full", wait_until(service.is_full, SHORT))
+    serving.check_switching(name, client, lambda line: service.write(f"{line}\n"), relay)
+    client.close()
+    service.process.send_signal(signal.SIGTERM)
+    check(f"{name}: the end, with the pipe full", service.has_ended())
+    status, _, errors = service.end()
+    check(f"{name}: in order", status == 0 and "fault" not in errors, status, errors[-300:])
+    names = names_of(folder)
+    check(f"{name}: what the folder has", "traces/000001.trace" in names and "running" not in names,
+          names)
+    if "traces/000001.trace" in names:
+        history = serving.play_trace(service.trace(1))
+        check(f"{name}: the trace", serving.is_part_of(client.seen, history), history)
+
+
+def state_and_end(name, service):
+    """The state of the meter of a service, which is then ended in order."""
+    client = service.client()
+    state = client.get(STATE)
+    client.close()
+    status, errors = service.ends()
+    check(f"{name}: ends in order", status == 0, status, errors)
+    return state
+
+
+def disconnect_and_end(name, service):
+    """Disconnects the meter of a service, and ends that in order."""
+    client = service.client()
+    replies = client.set(MODE, "1604"), client.execute(DISCONNECT)
+    check(f"{name}: is disconnected", replies == ("code 0", "code 0"), replies)
+    client.close()
+    status, errors = service.ends()
+    check(f"{name}: ends in order", status == 0, status, errors)
+
+
+def not_of_one_run(folder, number):
+    """The line of a start that is refused because of FOLDER/journal and this trace."""
+    return (f"meter_service: {folder}/journal: the journal and {folder}/traces/{number:06}.trace "
+            "are not of one run. Look at the meter; then move the journal away to resume from the "
+            "trace, or the later traces to resume from the journal, and remove "
+            f"{folder}/stored\n")
+
+
+def check_refused(name, folder, number):
+    """Checks that a service with FOLDER/journal is refused because of this trace, by one line."""
+    journal = folder / "journal"
+    service = Service(folder, "--journal", str(journal))
+    is_over = wait_until(lambda: service.process.poll() is not None, SHORT_END)
+    if not is_over:
+        check(f"{name}: refused", False, service.client().get(STATE), service.errors)
+        service.ends()
+        return
+    status, _, errors = service.end()
+    check(f"{name}: refused", (status, errors) == (2, not_of_one_run(folder, number)), status,
+          errors)
+
+
+@in_folder
+def a_journal_of_another_run_is_refused(name, folder):
+    """A journal that a later run without it has left behind would connect the supply again."""
+    path = folder / "journal"
+    journal, before = ("--journal", str(path)), folder.with_name("before")
+    check(f"{name}: a first run",
+          state_and_end(name, Service(folder, *journal)) == "value 1601")
+    shutil.copy(path, before)
+    disconnect_and_end(name, Service(folder))
+    check(f"{name}: the trace without a journal", stored_in(folder) == "000002.trace\n\n")
+    check_refused(name, folder, 2)
+    check(f"{name}: nothing is changed", path.read_bytes() == before.read_bytes()
+          and not (folder / "running").exists(), names_of(folder))
+    path.rename(folder.with_name("away"))
+    service = Service(folder, *journal)
+    check(f"{name}: without it still disconnected",
+          state_and_end(name, service) == "value 1600")
+    check(f"{name}: the trace with a journal", stored_in(folder) == f"000003.trace\n{path}\n")
+    check(f"{name}: then with a journal of its own",
+          state_and_end(name, Service(folder, *journal)) == "value 1600")
+
+
+@in_folder
+def a_journal_may_be_preferred_to_a_later_trace(name, folder):
+    """As the line of a refused start says: the later traces are moved away."""
+    journal = ("--journal", str(folder / "journal"))
+    state_and_end(name, Service(folder, *journal))
+    disconnect_and_end(name, Service(folder))
+    (folder / "traces/000002.trace").rename(folder.with_name("away"))
+    (folder / "stored").unlink(missing_ok=True)
+    check(name, state_and_end(name, Service(folder, *journal)) == "value 1601")
+
+
+@in_folder
+def other_files_are_no_traces(name, folder):
+    """A copy with a date as its name is not resumed from, and numbers the next trace no other."""
+    state_and_end(name, Service(folder))
+    shutil.copy(folder / "traces/000001.trace", folder / "traces/2026-11-01.trace")
+    disconnect_and_end(name, Service(folder))
+    check(f"{name}: its trace", (folder / "traces/000002.trace").exists(), names_of(folder))
+    service = Service(folder)
+    check(f"{name}: still disconnected", state_and_end(name, service) == "value 1600")
+    check(f"{name}: the traces", names_of(folder / "traces")
+          == ["000001.trace", "000002.trace", "000003.trace", "2026-11-01.trace"], names_of(folder))
+
+
+@in_folder
+def a_folder_of_an_older_version_is_judged_by_its_events(name, folder):
+    """Without FOLDER/stored the events of the journal and of the last trace are compared. If the
+    trace has reads only, nothing shows that it is of the journal's run."""
+    path, stored = folder / "journal", folder / "stored"
+    journal = ("--journal", str(path))
+    disconnect_and_end(name, Service(folder, *journal))
+    stored.unlink(missing_ok=True)
+    check(f"{name}: the same events",
+          state_and_end(name, Service(folder, *journal)) == "value 1600")
+    stored.unlink(missing_ok=True)
+    check_refused(f"{name}: a trace of reads", folder, 2)
+    service = Service(folder)
+    client = service.client()
+    check(f"{name}: connected again", client.execute(RECONNECT) == "code 0")
+    client.close()
+    check(f"{name}: a run without the journal", service.ends()[0] == 0)
+    stored.unlink(missing_ok=True)
+    check_refused(name, folder, 3)
+
+
+@in_folder
+def a_journal_without_events_is_refused_by_a_later_trace(name, folder):
+    """As in a folder of an older version, whose journal had nothing but its opening."""
+    journal = ("--journal", str(folder / "journal"))
+    state_and_end(name, Service(folder, *journal))
+    disconnect_and_end(name, Service(folder))
+    (folder / "stored").unlink(missing_ok=True)
+    check_refused(name, folder, 2)
+
+
+@in_folder
+def a_trace_that_is_recovered_is_not_of_another_journal(name, folder):
+    """The service of a run without a journal is killed, and its server ends in order. A journal of
+    an earlier run does not belong to the trace that is stored then."""
+    journal = ("--journal", str(folder / "journal"))
+    state_and_end(name, Service(folder, *journal))
+    service = Service(folder)
+    client = service.client()
+    replies = client.set(MODE, "1604"), client.execute(DISCONNECT)
+    check(f"{name}: is disconnected", replies == ("code 0", "code 0"), replies)
+    service.process.kill()
+    service.process.wait()
+    client.close()
+    check(f"{name}: the server ends in order",
+          wait_until(lambda: (folder / "next.trace").read_text().endswith("\n")))
+    service = Service(folder, *journal)
+    is_over = wait_until(lambda: service.process.poll() is not None, SHORT_END)
+    if not is_over:
+        check(f"{name}: refused", False, service.client().get(STATE), service.errors)
+        service.ends()
+        return
+    status, _, errors = service.end()
+    check(f"{name}: refused", status == 2 and errors.endswith(not_of_one_run(folder, 2)), status,
+          errors)
+
+
+@in_folder
+def a_journal_of_a_start_that_failed_is_taken(name, folder):
+    """A start with a new journal makes it before it listens. If that fails, the next start is not
+    refused: the journal has the state of the last trace."""
+    journal = ("--journal", str(folder / "journal"))
+    disconnect_and_end(name, Service(folder))
+    with socket.create_server(("127.0.0.1", 0)) as taken:
+        service = Service(folder, *journal, port=taken.getsockname()[1])
+        status, _, errors = service.end()
+    check(f"{name}: the port is taken", status == 3 and "fault: listen" in errors, status, errors)
+    check(f"{name}: the journal is of the trace",
+          stored_in(folder) == f"000001.trace\n{folder}/journal\n", stored_in(folder))
+    service = Service(folder, *journal)
+    is_over = wait_until(lambda: service.process.poll() is not None, SHORT)
+    check(f"{name}: starts", not is_over, service.errors)
+    if not is_over:
+        check(f"{name}: disconnected", state_and_end(name, service) == "value 1600")
+
+
 def command_line(name):
     def run(*words):
         return subprocess.run([SERVICE, *words], capture_output=True, text=True, timeout=PATIENCE)
@@ -271,6 +494,32 @@ def command_line(name):
         ran = run("--server", f"{folder}/none", f"{folder}/meter")
         check(f"{name}: a server that is missing",
               ran.returncode == 3 and ran.stderr.count("\n") == 1, ran.stderr)
+
+
+def modes_of(folder):
+    """The modes of the files in a folder of a service."""
+    return {str(it.relative_to(folder)): it.stat().st_mode & 0o777
+            for it in folder.rglob("*") if not it.is_dir()}
+
+
+@in_folder
+def the_unit_has_private_files(name, folder):
+    found = re.search(r"(?m)^UMask=(\d+)$", UNIT.read_text().partition("[Service]")[2])
+    mask = int(found[1], 8) if found else 0o022
+    service = Service(folder, "--journal", str(folder / "journal"),
+                      "--relay", str(folder / "supply"), umask=mask)
+    client = service.client()
+    check(f"{name}: mode and disconnect",
+          (client.set(MODE, "1601"), client.execute(DISCONNECT)) == ("code 0", "code 0"))
+    client.close()
+    modes = modes_of(folder)
+    check(f"{name}: the console", modes.pop("console", None) == 0o620)
+    check(f"{name}: {len(modes)} files of a run",
+          len(modes) >= 4 and set(modes.values()) == {0o600}, modes)
+    status, errors = service.ends()
+    check(f"{name}: ends", status == 0, status, errors)
+    mode = modes_of(folder).get("traces/000001.trace")
+    check(f"{name}: the trace", mode == 0o600, mode)
 
 
 def service_of_runit(folder, port):
@@ -370,8 +619,18 @@ def main():
     return serving.run_tests((a_run_is_stored_and_resumed, the_console_stays_open, open_sessions_end_first,
                               a_silent_client_delays_the_end, a_killed_server_is_not_resumed,
                               a_killed_server_has_its_journal,
+                              a_log_that_is_not_read_stops_nothing,
+                              a_journal_of_another_run_is_refused,
+                              a_journal_may_be_preferred_to_a_later_trace,
+                              other_files_are_no_traces,
+                              a_folder_of_an_older_version_is_judged_by_its_events,
+                              a_journal_without_events_is_refused_by_a_later_trace,
+                              a_trace_that_is_recovered_is_not_of_another_journal,
+                              a_journal_of_a_start_that_failed_is_taken,
+                              files_are_for_the_user_or_the_group,
                               a_killed_service_is_recovered, what_serves_nothing_loses_nothing,
-                              a_full_disk_keeps_the_marker, command_line, under_runit, under_systemd))
+                              a_full_disk_keeps_the_marker, the_unit_has_private_files,
+                              command_line, under_runit, under_systemd))
 
 
 if __name__ == "__main__":

@@ -1,12 +1,14 @@
 #!/usr/bin/env python3
-"""Tests `meter_server serve` with clients over TCP on a free port of the loopback interface. The
-client is written here (AARQ, GET, SET, ACTION, blocks, lists and release over the TCP wrapper), and
-trace_player plays the traces that the server prints. Every wait has a time limit."""
+"""Tests `meter_server serve` with clients over TCP on a free port of the loopback interface, also
+with a log that nobody reads and with wrong moments of the clock. The client is written here (AARQ,
+GET, SET, ACTION, blocks, lists and release over the TCP wrapper), and trace_player plays the traces
+that the server prints. Every wait has a time limit."""
 
 import os
 import pathlib
 import re
 import resource
+import select
 import socket
 import subprocess
 import sys
@@ -21,8 +23,12 @@ PLAYER = os.environ.get("TRACE_PLAYER") or TOP / "crates" / "trace_player_cli" /
 
 PASSWORD = "12345678"
 PATIENCE = 60  # the time limit of each wait, in seconds
+SHORT, SHORT_END = 2, 5  # those of an answer and of an end that must not wait for the log
 MANAGEMENT, PUBLIC = 1, 16
 SESSIONS = 8
+# The time at the head of a line of the log.
+TIME = r"\d{4}-\d\d-\d\dT\d\d:\d\d:\d\d\.\d{3}Z"
+SIZE_OF_PASSWORD = "password: must be 1 to 32 bytes\n"
 NO_CLIENT = b"Z no client can be accepted, trying again: "
 
 # Attributes and methods: class, logical name and number (IEC 62056-6-2).
@@ -34,11 +40,21 @@ ACTIVE, NORMAL = (*LIMITER, 3), (*LIMITER, 4)
 REGISTER = (3, "0100010700FF", 2)
 OBJECTS = (15, "0000280000FF", 2)
 DEVICE = (1, "00002A0000FF", 2)
+OVER_DURATION, ACTIONS = (*LIMITER, 6), (*LIMITER, 11)
+SCRIPTS = (9, "00000A006AFF", 2)
+SCHEDULE_SCRIPT, SCHEDULE_TYPE, SCHEDULE_TIMES = ((22, "00000F0001FF", it) for it in (2, 3, 4))
+
+# Script 1 disconnects; a limiter and a schedule run it, the schedule each day at 06:00.
+SCRIPT_TABLE = "010102021200010101020516021200460906000060030AFF0F010F00"
+SCRIPT_1 = "0202090600000A006AFF120001"
+NO_SCRIPT = "0202090600000A006AFF120000"
+AT_SIX = "010102020904060000000905FFFFFFFFFF"
 
 NAMING = "A109060760857405080101"  # application context: logical names, no ciphering
 AARE = "6129" + NAMING + "A203020100A305A103020100BE10040E0800065F1F0400"
 REFUSED = "6117" + NAMING + "A203020101A305A1030201"
 RELEASED = "6303800100"
+REFUSED_LENGTH = 8 + len(REFUSED + "0D") // 2  # of a whole frame
 
 
 def wait_until(holds, seconds=PATIENCE, pause=0.01):
@@ -69,8 +85,11 @@ class Client:
         self.seen = []
         self.socket = socket.create_connection(("127.0.0.1", port), timeout=PATIENCE)
 
+    def frame(self, payload):
+        return bytes.fromhex(f"0001{self.source:04X}0001{len(payload) // 2:04X}{payload}")
+
     def send(self, payload):
-        self.send_bytes(bytes.fromhex(f"0001{self.source:04X}0001{len(payload) // 2:04X}{payload}"))
+        self.send_bytes(self.frame(payload))
 
     def send_bytes(self, text):
         self.socket.sendall(text)
@@ -97,6 +116,16 @@ class Client:
         self.send(payload)
         return self.receive()
 
+    def answers_soon(self, call, *words):
+        """The reply to a request, or None if there is none within a short time."""
+        self.socket.settimeout(SHORT)
+        try:
+            return call(*words)
+        except (AssertionError, Vanished, OSError):
+            return None
+        finally:
+            self.socket.settimeout(PATIENCE)
+
     def is_closed(self):
         """Whether the server closed the connection without sending a byte."""
         try:
@@ -109,14 +138,18 @@ class Client:
     def close(self):
         self.socket.close()
 
-    def associate(self, password=PASSWORD, size="04B0", bits="00FEFF"):
-        """Sends an AARQ, for the management client with the password, and returns the response."""
+    def opening(self, password=PASSWORD, size="04B0", bits="00FEFF"):
+        """An AARQ, for the management client with the password."""
         secret = ""
         if self.source == MANAGEMENT:
             text = password.encode().hex().upper()
             secret = f"8A0207808B0760857405080201AC{len(text) // 2 + 2:02X}80{len(text) // 2:02X}{text}"
         fields = f"{NAMING}{secret}BE10040E01000000065F1F0400{bits}{size}"
-        return self.ask(f"60{len(fields) // 2:02X}{fields}")
+        return f"60{len(fields) // 2:02X}{fields}"
+
+    def associate(self, *words, **named):
+        """Sends an AARQ and returns the response."""
+        return self.ask(self.opening(*words, **named))
 
     def release(self):
         return self.ask("6203800100")
@@ -215,6 +248,10 @@ class Server:
         wait_until(lambda: self.errors.count(words) >= times or not self.reader.is_alive())
         return self.errors.count(words) >= times
 
+    def says_soon(self, words):
+        """Whether standard error has these words within a short time."""
+        return wait_until(lambda: words in self.errors, SHORT)
+
     def say(self, *lines):
         self.say_bytes("".join(line + "\n" for line in lines).encode())
 
@@ -258,6 +295,66 @@ class Server:
         if self.process.poll() is None:
             self.process.kill()
         self.process.wait()
+
+
+class Unread:
+    """Mixed into a server: nobody reads its standard error past the line that it listens until
+    `is_read` is set."""
+
+    def start(self, *words, **more):
+        self.is_read = threading.Event()
+        super().start(*words, **more)
+
+    def read_errors(self):
+        while b"listening on" not in self.errors and (piece := self.process.stderr.read1()):
+            self.errors += piece
+        self.is_read.wait()
+        super().read_errors()
+
+    def is_full(self):
+        """Whether the pipe of standard error takes no further byte."""
+        path = f"/proc/self/fd/{self.process.stderr.fileno()}"
+        its_end = os.open(path, os.O_WRONLY | os.O_NONBLOCK)
+        try:
+            return not select.select([], [its_end], [], 0)[1]
+        finally:
+            os.close(its_end)
+
+    def fill_log(self):
+        """Sends wrong passwords until the pipe has been full for a while."""
+        for _ in range(WRONG_CONNECTIONS):
+            send_wrong_passwords(self.port, WRONG_PASSWORDS // WRONG_CONNECTIONS)
+
+    def has_ended(self):
+        """Whether the process ends soon, though its log is not read. Afterwards the log is read."""
+        is_over = wait_until(lambda: self.process.poll() is not None, SHORT_END)
+        is_still_full = self.is_full()
+        self.is_read.set()
+        return is_over and is_still_full
+
+
+class UnreadServer(Unread, Server):
+    """A running `meter_server serve` whose log nobody reads."""
+
+
+WRONG_PASSWORDS, WRONG_CONNECTIONS = 3_000, 3
+
+
+def send_wrong_passwords(port, count):
+    """Sends AARQs with a wrong password on one connection, without waiting for an answer, and then
+    reads the answers. Returns how many came within a short time."""
+    received = b""
+    client = Client(port)
+    client.socket.settimeout(SHORT)
+    try:
+        client.send_bytes(client.frame(client.opening("wrong password")) * count)
+        while len(received) < count * REFUSED_LENGTH:
+            received += client.receive_exactly(REFUSED_LENGTH)
+    except (OSError, Vanished):
+        pass
+    finally:
+        client.close()
+    return len(received) // REFUSED_LENGTH
 
 
 def free_port():
@@ -570,17 +667,25 @@ def the_end_of_input_ends_the_server(name):
     client.close()
     status, trace, errors = server.end()
     check(f"{name}: end", status == 0 and "fault" not in errors, status, errors)
-    check(f"{name}: played", is_part_of(client.seen, play_trace(trace)) and ("button", "code 2") in play_trace(trace))
+    # (the button may be pressed before or after the mode is set)
+    events = [event for event, _ in play_trace(trace)]
+    check(f"{name}: played",
+          is_part_of(client.seen, play_trace(trace)) and "button" in events, events)
 
 
 def an_address_in_use_is_a_fault(name):
     with socket.socket() as taken:
         taken.bind(("127.0.0.1", 0))
         taken.listen()
-        status, output, errors = run_with("--password", PASSWORD, "--listen", "127.0.0.1:%d" % taken.getsockname()[1])
-    check(f"{name}", (status, output, errors) == (3, "", "fault: listen\n"), status, output, errors)
+        address = "127.0.0.1:%d" % taken.getsockname()[1]
+        status, output, errors = run_with("--password", PASSWORD, "--listen", address)
+    wanted = f"{TIME} {re.escape(address)}: the address is in use\nfault: listen\n"
+    is_told = re.fullmatch(wanted, errors)
+    check(f"{name}", (status, output) == (3, "") and is_told, status, output, errors)
     status, output, errors = run_with("--password", PASSWORD, "--listen", "nowhere")
-    check(f"{name}: no address", (status, output, errors) == (3, "", "fault: listen\n"), status, output, errors)
+    wanted = f"{TIME} nowhere: expected HOST:PORT with a port of at most 65535\nfault: listen\n"
+    is_told = re.fullmatch(wanted, errors)
+    check(f"{name}: no address", (status, output) == (3, "") and is_told, status, output, errors)
 
 
 def a_meter_goes_on_from_its_trace(name):
@@ -602,9 +707,10 @@ def a_meter_goes_on_from_its_trace(name):
     check(f"{name}: last sample", then.get(REGISTER) == "value 0600001F40")
     check(f"{name}: reconnect", then.execute(RECONNECT) == "code 0")
     then.close()
-    status, trace, _ = server.end()
+    status, trace, errors = server.end()
     history = play_trace(trace)
     check(f"{name}: the time too", status == 0 and ("moment 400", "stale 500") in history, history)
+    check(f"{name}: it is reported", f"{STALE.format(400, 500)}\n" in errors, errors)
     check(f"{name}: no event of the first run", is_part_of(then.seen, history) and len(history) == len(then.seen) + 1, history)
 
 
@@ -614,11 +720,16 @@ def a_wrong_trace_is_not_gone_on_from(name):
     client.get(STATE)
     client.close()
     trace = good.end()[1].encode()
-    for what, text in (("no trace", b"button\n"), ("nothing", b""), ("cut", trace[:-1]), ("an unfit state", trace.replace(b"state 1", b"state 3")),
-                       ("another version", trace.replace(b"RELAYTRACE 2", b"RELAYTRACE 3")), ("too few events", trace.replace(b"events 1", b"events 2")),
-                       ("a wrong event", trace.replace(b"get 16", b"get 17"))):
+    last = trace.count(b"\n")
+    for what, line, text in (
+            ("no trace", 1, b"button\n"), ("nothing", 1, b""), ("cut", last, trace[:-1]),
+            ("an unfit state", 3, trace.replace(b"state 1", b"state 3")),
+            ("another version", 1, trace.replace(b"RELAYTRACE 2", b"RELAYTRACE 3")),
+            ("too few events", last + 1, trace.replace(b"events 1", b"events 2")),
+            ("a wrong event", last, trace.replace(b"get 16", b"get 17"))):
         made = run_with("--password", PASSWORD, "--resume", "--listen", f"127.0.0.1:{free_port()}", console=text)
-        check(f"{name}: {what}", made == (2, "", "fault: input\n"), made)
+        why = f"standard input: line {line}: not a line of a trace (trace_player says why)"
+        check(f"{name}: {what}", made == (2, "", f"{why}\nfault: input\n"), made)
 
 
 def wrong_passwords_are_refused(name):
@@ -633,13 +744,15 @@ def wrong_passwords_are_refused(name):
     check(f"{name}: the right one", client.get(STATE) == "value 1601")
     client.close()
     check(f"{name}: end", server.end()[0] == 0)
-    for words in (["--password", ""], ["--password", "x" * 33], ["--password", "x", "--device", ""], ["--password", "x", "--device", "x" * 17]):
+    size_of_device = "device: must be 1 to 16 bytes\n"
+    for words, line in ((["--password", ""], SIZE_OF_PASSWORD),
+                        (["--password", "x" * 33], SIZE_OF_PASSWORD),
+                        (["--password", "x", "--device", ""], size_of_device),
+                        (["--password", "x", "--device", "x" * 17], size_of_device)):
         made = run_with(*words)
-        check(f"{name}: length", made == (2, "", "fault: input\n"), words, made)
+        check(f"{name}: length", made == (2, "", line + "fault: input\n"), words, made)
 
 
-# The time at the head of a line of the log.
-TIME = r"\d{4}-\d\d-\d\dT\d\d:\d\d:\d\d\.\d{3}Z"
 NO_JOURNAL = "no journal: if the server is killed, its trace and the meter's state are lost"
 
 
@@ -680,7 +793,7 @@ def the_environment_has_the_password(name):
     client.close()
     check(f"{name}: its end", server.end()[0] == 0)
     made = run_with("--listen", "127.0.0.1:0", environment={"METER_PASSWORD": ""})
-    check(f"{name}: empty", made == (2, "", "fault: input\n"), made)
+    check(f"{name}: empty", made == (2, "", SIZE_OF_PASSWORD + "fault: input\n"), made)
     status, output, errors = run_with("--listen", "127.0.0.1:0")
     check(f"{name}: neither", status == 2 and output == "" and "--password <TEXT>" in errors, errors)
 
@@ -769,6 +882,203 @@ def a_server_without_a_journal_says_so(name):
     check(f"{name}: not into a file", (status, errors) == (0, ""), errors)
 
 
+DROPPED = r"log: (\d+) lines were dropped: the log is not read in time"
+
+
+def prepare_switching(client):
+    """Mode 1 and a limiter that disconnects above 5,000 W after a second; whether all was taken."""
+    replies = [client.set(SCRIPTS, SCRIPT_TABLE), client.set(MODE, "1601"),
+               client.set(ACTIONS, "0202" + SCRIPT_1 + NO_SCRIPT), client.set(NORMAL, "0600001388"),
+               client.set(OVER_DURATION, "0600000001")]
+    return set(replies) == {"code 0"}
+
+
+def check_switching(name, client, press, relay):
+    """A remote disconnection, a press of the button and the limiter act at once, though the log is
+    not read. `press` writes lines to the console."""
+    def is_given(text):
+        return wait_until(lambda: relay.read_text() == text, SHORT)
+
+    answer = client.answers_soon(client.execute, DISCONNECT)
+    check(f"{name}: a disconnection is answered", answer == "code 0", answer)
+    check(f"{name}: the relay after it", is_given("1\n0\n"), relay.read_text())
+    answer = client.answers_soon(client.execute, RECONNECT)
+    check(f"{name}: a reconnection is answered", answer == "code 0", answer)
+    press("button")
+    check(f"{name}: the relay after the button", is_given("1\n0\n1\n"), relay.read_text())
+    press("samples" + 50 * " 9000")
+    check(f"{name}: the relay after the limiter", is_given("1\n0\n1\n0\n"), relay.read_text())
+
+
+def a_log_that_is_not_read_stops_nothing(name):
+    with tempfile.TemporaryDirectory(prefix="unread-") as folder:
+        relay = pathlib.Path(folder, "relay")
+        server = UnreadServer("--stop-with-input", "--relay", str(relay))
+        client = server.client()
+        check(f"{name}: prepared", prepare_switching(client))
+        server.fill_log()
+        check(f"{name}: the pipe is full", wait_until(server.is_full, SHORT))
+        check_switching(name, client, server.say, relay)
+        check(f"{name}: the pipe is still full", server.is_full())
+        later = Client(server.port, PUBLIC)
+        answer = later.answers_soon(later.associate)
+        check(f"{name}: a later client is served", (answer or "").startswith(AARE), answer)
+        later.close()
+        client.close()
+        server.end_input()
+        check(f"{name}: the end, with the pipe full", server.has_ended())
+        status, trace, errors = server.end()
+        check(f"{name}: in order", status == 0 and "fault" not in errors, status, errors[-300:])
+        events = [event for event, _ in play_trace(trace)]
+        check(f"{name}: its trace",
+              is_part_of(client.seen, play_trace(trace)) and "button" in events, events)
+
+
+def dropped_lines_are_counted(name):
+    server = UnreadServer("--stop-with-input")
+    server.fill_log()
+    check(f"{name}: the pipe is full", wait_until(server.is_full, SHORT))
+    server.is_read.set()
+
+    def counts():
+        return [int(it) for it in re.findall(f"(?m)^{DROPPED}$", server.errors.decode())]
+
+    check(f"{name}: once it is read", wait_until(counts, SHORT), server.errors[-300:])
+    client = server.client()
+    client.close()
+    status, _, errors = server.end()
+    check(f"{name}: the end", status == 0 and "fault" not in errors, status, errors[-300:])
+    lines = errors.splitlines()
+    whole = [it for it in lines if re.fullmatch(f"{TIME} .*|{DROPPED}", it)]
+    check(f"{name}: whole lines", lines == whole, [it for it in lines if it not in whole][:3])
+    # (each connection has its line at both ends, too)
+    found, all_lines = len(lines) - len(counts()) + sum(counts()), WRONG_PASSWORDS
+    all_lines += 2 * WRONG_CONNECTIONS + 5  # those of the last client, of the start and no journal
+    check(f"{name}: each line or its count", found == all_lines, found, all_lines, counts())
+
+
+FIRST_MOMENT = 946_684_800  # the moment 0, in seconds since 1970
+DAY = 86_400
+HELD_BACK = ("console: moment {} held back: more than a day ahead of the last one or of this "
+             "machine; --accept-clock-step lets it pass")
+PASSED = "console: {} moments were held back"
+STALE = "console: moment {} is stale: the last one is {}"
+
+
+def six_of(moment):
+    """06:00 of the day of a moment."""
+    return moment - moment % DAY + 6 * 3_600
+
+
+def server_with_schedule(*options):
+    """A server that disconnects each day at 06:00, and a client."""
+    server = Server("--stop-with-input", *options)
+    client = server.client()
+    replies = [client.set(SCRIPTS, SCRIPT_TABLE), client.set(MODE, "1604"),
+               client.set(SCHEDULE_SCRIPT, SCRIPT_1), client.set(SCHEDULE_TYPE, "1601"),
+               client.set(SCHEDULE_TIMES, AT_SIX)]
+    assert set(replies) == {"code 0"}, replies
+    return server, client
+
+
+def console_of(server):
+    """What a server has logged of its console."""
+    return [it for it in server.errors.decode().splitlines() if it.startswith("console: ")]
+
+
+def end_with_moments(server, client):
+    """Ends a server; returns its status and the moments of its trace with their replies."""
+    client.close()
+    status, trace, _ = server.end()
+    return status, [it for it in play_trace(trace) if it[0].startswith("moment ")]
+
+
+def a_moment_far_ahead_is_held_back(name):
+    """Of a last moment ten days ago, at noon: a schedule of 06:00 would run at the next day's."""
+    begun = six_of(int(time.time()) - FIRST_MOMENT - 10 * DAY) + 6 * 3_600
+    far, next_day = begun + DAY + 1, begun + DAY
+    server, client = server_with_schedule()
+    server.say(f"moment {begun}", f"moment {far}", f"moment {far + 1}", "samples 7")
+    wait_until(lambda: client.get(REGISTER) == "value 0600000007", SHORT)
+    check(f"{name}: reported once", server.says_soon(HELD_BACK.format(far).encode() + b"\n")
+          and len(console_of(server)) == 1, console_of(server))
+    check(f"{name}: the schedule does not run", client.get(STATE) == "value 1601")
+    server.say(f"moment {begun + 60}", f"moment {begun + 30}", "samples 8")
+    wait_until(lambda: client.get(REGISTER) == "value 0600000008", SHORT)
+    stale = STALE.format(begun + 30, begun + 60)
+    wanted = [HELD_BACK.format(far), PASSED.format(2), stale]
+    check(f"{name}: the next right one passes",
+          server.says_soon(stale.encode()) and console_of(server) == wanted, console_of(server))
+    server.say(f"moment {next_day}")
+    check(f"{name}: the schedule of the next day",
+          wait_until(lambda: client.get(STATE) == "value 1600", SHORT))
+    status, moments = end_with_moments(server, client)
+    wanted = [(f"moment {begun}", "ran 0"), (f"moment {begun + 60}", "ran 0"),
+              (f"moment {begun + 30}", f"stale {begun + 60}"), (f"moment {next_day}", "ran 1")]
+    check(f"{name}: the trace", status == 0 and moments == wanted, status, moments)
+
+
+def a_new_meter_has_the_clock_of_the_machine(name):
+    now = int(time.time()) - FIRST_MOMENT
+    far = six_of(now) + 3 * DAY
+    server, client = server_with_schedule()
+    server.say(f"moment {far}", "moment 2000000000", "samples 7")
+    wait_until(lambda: client.get(REGISTER) == "value 0600000007", SHORT)
+    check(f"{name}: reported", server.says_soon(HELD_BACK.format(far).encode() + b"\n")
+          and len(console_of(server)) == 1, console_of(server))
+    check(f"{name}: the schedule does not run", client.get(STATE) == "value 1601")
+    server.say(f"moment {now}")
+    check(f"{name}: the right one passes",
+          server.says_soon(f"{PASSED.format(2)}\n".encode()), console_of(server))
+    status, moments = end_with_moments(server, client)
+    check(f"{name}: the trace",
+          status == 0 and [it for it, _ in moments] == [f"moment {now}"], status, moments)
+
+
+def a_step_of_the_clock_may_be_accepted(name):
+    now = int(time.time()) - FIRST_MOMENT
+    far = six_of(now) + 10 * DAY
+    server, client = server_with_schedule("--accept-clock-step")
+    server.say(f"moment {now}", f"moment {far}")
+    check(f"{name}: the schedule runs",
+          wait_until(lambda: client.get(STATE) == "value 1600", SHORT))
+    status, moments = end_with_moments(server, client)
+    check(f"{name}: the trace", status == 0 and moments[1:] == [(f"moment {far}", "ran 1")],
+          status, moments)
+    check(f"{name}: nothing is reported", console_of(server) == [], console_of(server))
+
+
+def moments_of_a_run(*moments, options=(), trace=None):
+    """The moments that a server takes from its console, what it reports of them, and its trace."""
+    resumed = ["--resume"] if trace else []
+    server = Server("--stop-with-input", *resumed, *options, console=(trace or "").encode())
+    server.say(*(f"moment {it}" for it in moments))
+    status, trace, errors = server.end()
+    assert status == 0, errors
+    taken = [int(it.split()[1]) for it, _ in play_trace(trace) if it.startswith("moment ")]
+    return taken, console_of(server), trace
+
+
+def moments_are_judged_by_the_trace_or_the_machine(name):
+    """Up to a day after the last moment of a trace, or after the clock without one."""
+    far = 101 + 2 * DAY
+    taken, told, trace = moments_of_a_run(100, 101 + DAY, 102 + DAY, 100 + DAY, 100, far)
+    check(f"{name}: a last one", taken == [100, 100 + DAY, 100], taken)
+    wanted = [HELD_BACK.format(101 + DAY), PASSED.format(2), STALE.format(100, 100 + DAY),
+              HELD_BACK.format(far)]
+    check(f"{name}: a further row is reported", told == wanted, told)
+    taken, told, _ = moments_of_a_run(far, far - 1, trace=trace)
+    wanted = [HELD_BACK.format(far), PASSED.format(1)]
+    check(f"{name}: the trace's last one", (taken, told) == ([far - 1], wanted), taken, told)
+    ahead = int(time.time()) - FIRST_MOMENT + DAY + 600
+    taken, told, _ = moments_of_a_run(ahead, ahead - 1_200)
+    wanted = [HELD_BACK.format(ahead), PASSED.format(1)]
+    check(f"{name}: the machine", (taken, told) == ([ahead - 1_200], wanted), taken, told)
+    both = (100, 4_294_967_295)
+    taken, told, _ = moments_of_a_run(*both, options=("--accept-clock-step",))
+    check(f"{name}: the last moment may be accepted", (taken, told) == ([*both], []), taken, told)
+
+
 def main():
     if not are_built(SERVER, PLAYER):
         return 1
@@ -777,6 +1087,10 @@ def main():
                       console_lines_act_beside_clients, a_console_that_is_not_read_is_a_fault, a_limit_of_connections_ends_the_server, the_end_of_input_ends_the_server,
                       an_address_in_use_is_a_fault, a_meter_goes_on_from_its_trace, a_wrong_trace_is_not_gone_on_from, wrong_passwords_are_refused,
                       the_log_reports_each_client, a_server_without_a_journal_says_so,
+                      a_log_that_is_not_read_stops_nothing, dropped_lines_are_counted,
+                      a_moment_far_ahead_is_held_back, a_new_meter_has_the_clock_of_the_machine,
+                      a_step_of_the_clock_may_be_accepted,
+                      moments_are_judged_by_the_trace_or_the_machine,
                       the_environment_has_the_password, a_file_has_the_password, a_client_may_vanish_in_mid_frame, a_silent_client_is_closed))
 
 

@@ -14,4 +14,4 @@ complete -c meter_fleet -f -n '__fish_seen_subcommand_from serve' -l inactivity 
 complete -c meter_fleet -f -n '__fish_seen_subcommand_from serve' -l session -r -d 'Close a connection that lasts longer, 0 to 4294967295; 0: never'
 complete -c meter_fleet -f -n '__fish_seen_subcommand_from serve' -l fault -r -d 'Inject this fault into this share of the meters; may be given for each fault'
 complete -c meter_fleet -f -n '__fish_seen_subcommand_from serve' -l seed -r -d 'Seed that chooses the meters that have a fault, 0 to 4294967295'
-complete -c meter_fleet -f -n '__fish_seen_subcommand_from serve' -l verbose -d 'Report the address, and faults in full, on standard error'
+complete -c meter_fleet -f -n '__fish_seen_subcommand_from serve' -l verbose -d 'Report the address on standard error'

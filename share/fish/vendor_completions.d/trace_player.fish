@@ -6,5 +6,5 @@ complete -c trace_player -l from -r -d 'Print the lines of the events from numbe
 complete -c trace_player -l to -r -d 'Print the lines of the events up to number N; at least that of --from'
 complete -c trace_player -l changes -d 'Print only lines in which the control state or the supply differs from the line before'
 complete -c trace_player -l format -r -d 'Print each event as a record: csv, comma-separated; json, one JSON object a line'
-complete -c trace_player -l partial -d 'Play a damaged trace up to its first wrong line, and report that line on standard error'
-complete -c trace_player -l verbose -d 'Report on standard error what is wrong, or how many bytes of a journal were left out'
+complete -c trace_player -l partial -d 'Play a damaged trace up to its first wrong line'
+complete -c trace_player -l verbose -d 'No effect: faults are always described'
