@@ -120,6 +120,25 @@ impl MemoryPlace {
         }
     }
 
+    /// Returns a name whose file has got it by a rename that is not on the disk, as a process that
+    /// was killed may leave it: `bytes` are those of the file, `previous` those of the file that a
+    /// crash may leave under the name. The bytes of both are on the disk.
+    pub fn after_rename(alloc: Global, bytes: Vec<u8>, previous: Vec<u8>) -> MemoryPlace
+        ensures { states_of result ≡ record {
+          current = synced_with bytes.items;
+          previous = Some (synced_with previous.items);
+        } ∷ [] }
+    {
+        MemoryPlace {
+            alloc,
+            state: PlaceState {
+                current: FileState::synced_with(alloc, bytes),
+                previous: Some(FileState::synced_with(alloc, previous)),
+            },
+            past: Vec::new(alloc),
+        }
+    }
+
     /// Returns the bytes of the file that has the name.
     pub fn bytes(&self) -> Result<Vec<u8>, AllocError>
         ensures { IfOk result (λ bytes. bytes.items ≡ seen_of (name_of self.now)) }

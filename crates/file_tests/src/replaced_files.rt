@@ -1,5 +1,5 @@
 //! Files that are replaced as a whole: crashes at each moment of a replacement in memory.
-use durable_lines::{ByteFate, MemoryPlace, replace};
+use durable_lines::{ByteFate, MemoryPlace, recover, replace};
 use std::test::Fail;
 
 // The file before a replacement, and after it.
@@ -55,5 +55,20 @@ fn a_crash_during_a_replacement_leaves_the_old_file_or_the_new_one(
     let is_left = leaves_old_or_new(&place);
     drop(place);
     assert!(rt; replaced == Ok(()) && is_left);
+    Ok(())
+}
+
+// A process was killed after the rename, before it had synced the folder: the next start finds the
+// new file under the name, and a crash may leave the old one until the start has synced both.
+#[test]
+fn a_start_puts_the_rename_before_it_on_the_disk(rt: HostRuntime) -> Result<(), Fail> {
+    let alloc = rt.alloc();
+    let mut place = MemoryPlace::after_rename(alloc, NEW.to_vec(alloc)?, OLD.to_vec(alloc)?);
+    let is_open = leaves(&place, 0, false, false) && leaves(&place, 0, true, true);
+    let found = recover(alloc, &mut place).map_err(|_| "not recovered")?;
+    let last = place.moment();
+    let is_settled = leaves(&place, last, false, true) && leaves(&place, last, true, true);
+    drop(place);
+    assert!(rt; is_open && is_settled && found.text.as_slice() == NEW && found.cut == 0);
     Ok(())
 }

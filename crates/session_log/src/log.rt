@@ -86,6 +86,22 @@ impl Eprint for Log {
     }
 }
 
+// Writes bytes of a queue. Reports after their last whole line how many lines were dropped: a report
+// stands on a line of its own.
+fn write_piece<W: Write>(output: &mut W, piece: &[u8], queue: &LogQueue) {
+    let (lines, rest) = match piece.iter().rposition(|byte| *byte == b'\n') {
+        Some(end) => piece.split_at(end + 1),
+        None => piece.split_at(0),
+    };
+    if !lines.is_empty() {
+        let _ = output.write_all(lines);
+        report_dropped(output, queue);
+    }
+    if !rest.is_empty() {
+        let _ = output.write_all(rest);
+    }
+}
+
 // Writes what comes from a queue on standard error until its end. Reports how many lines were
 // dropped meanwhile.
 fn write_lines<W: Write>(output: &mut W, lines: &mut UnixStream, queue: &LogQueue) {
@@ -93,14 +109,12 @@ fn write_lines<W: Write>(output: &mut W, lines: &mut UnixStream, queue: &LogQueu
     'pieces: for _ in 0..u64::MAX {
         match lines.read(&mut piece) {
             Ok(0) => break 'pieces,
-            Ok(count) => {
-                let _ = output.write_all(&piece[..count]);
-                report_dropped(output, queue);
-            }
+            Ok(count) => write_piece(output, &piece[..count], queue),
             Err(error) if error.kind() == ErrorKind::Interrupted => {}
             Err(_) => break 'pieces,
         }
     }
+    report_dropped(output, queue);
 }
 
 // Reports how many lines were dropped, if any were.
