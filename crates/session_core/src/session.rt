@@ -203,10 +203,10 @@ impl Session {
         let payload = self.deframer.payload(size);
         let (form, request) = read_short_request(link.conformance, payload)?;
         let level = link.level;
-        self.state.incoming = None;
-        self.state.outgoing = None;
+        put(&mut self.state.incoming, None);
+        put(&mut self.state.outgoing, None);
         self.deframer.pass(size);
-        self.task = SessionTask::Await(Asked { link, form });
+        put(&mut self.task, SessionTask::Await(Asked { link, form }));
         Some((level, request))
     }
 
@@ -230,7 +230,7 @@ impl Session {
         let framed = match asked.form {
             ReplyForm::Get(_) => {
                 let text = answer_get(alloc, asked, reply, &mut self.state.outgoing)?;
-                self.task = SessionTask::Listen;
+                put(&mut self.task, SessionTask::Listen);
                 return Ok(text);
             }
             ReplyForm::Set(id) => frame(alloc, SERVER_PORT, to, &set_answer(id, reply)),
@@ -239,8 +239,8 @@ impl Session {
         };
         match framed {
             Ok(text) => {
-                self.state.outgoing = None;
-                self.task = SessionTask::Listen;
+                put(&mut self.state.outgoing, None);
+                put(&mut self.task, SessionTask::Listen);
                 Ok(text)
             }
             Err(WrapperFault::Memory) => Err(AllocError),
@@ -269,8 +269,8 @@ impl Session {
         // (no effect: the contract needs this law)
         link.limit.holds_range();
         let count = put_answer(asked, reply, buffer)?;
-        self.state.outgoing = None;
-        self.task = SessionTask::Listen;
+        put(&mut self.state.outgoing, None);
+        put(&mut self.task, SessionTask::Listen);
         Some(count)
     }
 
@@ -415,4 +415,11 @@ impl Session {
     {
         self.task = task;
     }
+}
+
+// Drops what is at a place, and puts a value there.
+fn put<T: Drop>(place: &mut T, value: T)
+    ensures { place.new ≡ value }
+{
+    *place = value;
 }

@@ -1,5 +1,6 @@
 use Rattle.std.proofs.Common.{◌≡◌, ℕ, ◌+◌, ◌-◌, List, ◌∙◌, length, length-append, ap, arith}
 use Rattle.counted_io.proofs.LineLemmas.{line_done, part_grown, part_more, too_long}
+use Rattle.std.proofs.lemmas.Grind.{common_steps}
 use Rattle.counted_io.specs.Lines.{left_in}
 use Rattle.counted_io.proofs.lines.read_line_within.Goals as goal
 
@@ -45,3 +46,9 @@ pieces-preserved g c =
       within = λ _. omega (arith, c.if-len-limit.false, c.len.ensures);
       begun = c.pieces.invariant.begun;
     }
+
+pub returns-in-Err-clause-part : goal.returns-in-Err-clause-part
+returns-in-Err-clause-part g c = grind (arith, common_steps)
+
+pub overflow_sub-result : goal.overflow_sub-result
+overflow_sub-result g c = grind (arith, common_steps)

@@ -5,8 +5,8 @@ use Rattle.session_core.specs.ShortRequests.{IsShortText}
 use Rattle.session_core.proofs.session.Session.next_short.Goals as goal
 
 pub returns-clause-asks : goal.returns-clause-asks
-returns-clause-asks c =
-    asks_at_front c.args.self.now _ c.pass.new.self c.payload-payload.result.now
+returns-clause-asks c = rw (c.put.ensures, c.put-2.ensures, c.put-3.ensures)
+    (asks_at_front c.args.self.now _ c.pass.new.self c.payload-payload.result.now
     (record { link = c.args.self.now.state.link; incoming = None; outgoing = None })
     c.ports-source.result.0 c.ports-source.result.1 c.in-Whole.size
     (record { link = c.in_ok-link.link; form = c.in_ok-form.form }) c.in_ok-form.request
@@ -15,7 +15,7 @@ returns-clause-asks c =
     c.payload-payload.ensures c.pass.ensures.new_state c.pass.ensures.keeps_frames
     (hears_short c.args.self.now.state c.ports-source.result.0 c.payload-payload.result.now
     c.in_ok-link.link c.in_ok-form.form c.in_ok-form.request c.in_ok-link.was
-    (sym c.if-source-link.false) c.in_ok-form.ensures.read) refl
+    (sym c.if-source-link.false) c.in_ok-form.ensures.read) refl)
 
 pub returns-clause-is_short : goal.returns-clause-is_short
 returns-clause-is_short c = (
@@ -34,7 +34,7 @@ returns-clause-is_short c = (
 )
 
 pub returns-clause-answers : goal.returns-clause-answers
-returns-clause-answers c = λ reply is buffer room.
-    answers_in c.in_ok-link.link.conformance.0 c.payload-payload.result.now
+returns-clause-answers c = λ reply is buffer room. rw c.put-3.ensures
+    (answers_in c.in_ok-link.link.conformance.0 c.payload-payload.result.now
     (record { link = c.in_ok-link.link; form = c.in_ok-form.form }) c.in_ok-link.link.level
-    c.in_ok-form.request reply buffer c.in_ok-form.ensures.read c.holds_range.ensures.least is room
+    c.in_ok-form.request reply buffer c.in_ok-form.ensures.read c.holds_range.ensures.least is room)
