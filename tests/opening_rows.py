@@ -190,9 +190,11 @@ def worked_rows():
     for number, line, wanted in WORKED_ROWS:
         found = play_text("".join(f"{it}\n" for it in [*lines[:number - 1], line, *lines[number:]]))
         yield f"the worked trace with {line!r}", found == wanted, found
-    for number in range(22, 31):
+    for number in range(1, 31):
+        # (without one of its events, the text ends where the last of them is due)
+        wanted = number if number < 22 else 30
         found = play_text("".join(f"{it}\n" for it in [*lines[:number - 1], *lines[number:]]))
-        yield f"the worked trace without line {number}", found == 30, found
+        yield f"the worked trace without line {number}", found == wanted, found
     found = play_text("\n".join(lines))
     yield "the worked trace with a last line that is not ended", found == 30, found
 

@@ -2,6 +2,7 @@
 //! too many jobs.
 use client_core::{Job, Verb};
 use head_end::{Jobs, JobsFault, read_jobs};
+use std::alloc::Global;
 use std::test::Fail;
 
 /// Returns whether a job has this name, this address and this verb.
@@ -46,6 +47,30 @@ fn a_long_text_may_have_no_jobs(rt: HostRuntime) -> Result<(), Fail> {
     };
     drop(jobs);
     assert!(rt; is_empty);
+    Ok(())
+}
+
+// Returns the fault of a text of jobs, if it is refused.
+fn fault_of(alloc: Global, text: &[u8]) -> Option<JobsFault> {
+    match read_jobs(alloc, text) {
+        Ok(jobs) => {
+            drop(jobs);
+            None
+        }
+        Err(fault) => Some(fault),
+    }
+}
+
+#[test]
+fn other_verbs_and_long_lists_are_refused(rt: HostRuntime) -> Result<(), Fail> {
+    let close = fault_of(rt.alloc(), b"m1 127.0.0.1:4059 close\n");
+    let mut text = Vec::new(rt.alloc());
+    for _ in 0..1_001 {
+        text.extend_from_slice(b"m1 127.0.0.1:4059 state\n")?;
+    }
+    let long = fault_of(rt.alloc(), text.as_slice());
+    drop(text);
+    assert!(rt; close == Some(JobsFault::Line(1)) && long == Some(JobsFault::TooMany));
     Ok(())
 }
 

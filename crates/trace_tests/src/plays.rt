@@ -114,6 +114,28 @@ fn a_trace_is_written_again(rt: HostRuntime) {
     assert!(rt; is_the_same_again(rt.alloc(), PAIRS));
 }
 
+// Returns whether a text that is read and written again begins so, and plays to this output.
+fn plays_again(alloc: Global, text: &[u8], first: &[u8], output: &[u8]) -> bool {
+    let Ok(trace) = read_trace(alloc, text) else {
+        return false;
+    };
+    let again = write_trace(alloc, &trace);
+    drop(trace);
+    let Ok(again) = again else {
+        return false;
+    };
+    let mut reader = Counted::new(again.as_slice());
+    let mut writer = Counted::new(Vec::new(alloc));
+    let events = play(alloc, &mut reader, &mut writer);
+    let is_so = events.is_ok() && writer.into_inner().as_slice() == output;
+    is_so && again.as_slice().starts_with(first)
+}
+
+#[test]
+fn a_trace_of_version_1_is_written_as_version_2(rt: HostRuntime) {
+    assert!(rt; plays_again(rt.alloc(), TRACE, b"RELAYTRACE 2\n", OUTPUT));
+}
+
 #[test]
 fn faults_have_numbers(rt: HostRuntime) {
     assert!(rt; u8::from(PlayFault::Line(7)) == 1 && u8::from(PlayFault::TooLong) == 2);

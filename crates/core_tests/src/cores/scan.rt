@@ -34,10 +34,36 @@ const DISCONNECT_AND_RECONNECT: &[u8] = b"\x01\x02\
 const OVER_1_UNDER_2: &[u8] = b"\x02\x02\x02\x02\x09\x06\x00\x00\x0A\x00\x6A\xFF\x12\x00\x01\
     \x02\x02\x09\x06\x00\x00\x0A\x00\x6A\xFF\x12\x00\x02";
 
+/// Four seconds over 5000 W raise the threshold to 9000 W; five seconds under it count. The upper
+/// side fires at the 37th of the 256 samples, and the lower side at the 50th after it.
+const RAISES_AND_FALLS: Firing = Firing {
+    settings: &[
+        (SCRIPTS, RAISE_IMPORT),
+        ((71, IMPORT_LIMITER, 4), b"\x06\x00\x00\x13\x88"),
+        ((71, IMPORT_LIMITER, 6), b"\x06\x00\x00\x00\x04"),
+        ((71, IMPORT_LIMITER, 7), b"\x06\x00\x00\x00\x05"),
+        ((71, IMPORT_LIMITER, 11), OVER_1),
+    ],
+    blocks: &[
+        Samples {
+            stretches: &[(3, 6000)],
+            over: 0,
+            under: 0,
+        },
+        Samples {
+            stretches: &[(256, 6000)],
+            over: 1,
+            under: 1,
+        },
+    ],
+    state: 1,
+    threshold: 9000,
+};
+
 /// Four seconds over 5000 W raise the threshold to 9000 W; 25 seconds under it count. The upper
 /// side fires at the 37th of the 256 samples: 219 are under the new threshold, 30 more are too few,
 /// and one more makes 250.
-static RAISES: Firing = Firing {
+const RAISES: Firing = Firing {
     settings: &[
         (SCRIPTS, RAISE_IMPORT),
         ((71, IMPORT_LIMITER, 4), b"\x06\x00\x00\x13\x88"),
@@ -74,7 +100,7 @@ static RAISES: Firing = Firing {
 /// Mode 5: a second over 5000 W disconnects, a second under it reconnects. The upper side fires at
 /// the tenth sample. The lower side fires at the 20th, which reconnects and so ends its run, and at
 /// the 30th, when the switch is already connected.
-static SWITCHES: Firing = Firing {
+const SWITCHES: Firing = Firing {
     settings: &[
         (SCRIPTS, DISCONNECT_AND_RECONNECT),
         (MODE, &[0x16, 5]),
@@ -167,10 +193,13 @@ pub(super) fn fires_with(
 /// No scan, a scan at the threshold, and one at another.
 static SCANS: [Option<u32>; 3] = [None, Some(5000), Some(4000)];
 
+static PLANS: [Firing; 3] = [RAISES_AND_FALLS, RAISES, SWITCHES];
+
 #[test]
 fn blocks_fire_alike_with_each_scan(rt: HostRuntime) {
     for scan in &SCANS {
-        assert!(rt; is_done(rt.alloc(), Scenario::Firing(&RAISES, *scan)) == Ok(true));
-        assert!(rt; is_done(rt.alloc(), Scenario::Firing(&SWITCHES, *scan)) == Ok(true));
+        for plan in &PLANS {
+            assert!(rt; is_done(rt.alloc(), Scenario::Firing(plan, *scan)) == Ok(true));
+        }
     }
 }
