@@ -5,7 +5,7 @@ for no crate of its own.
 
 usage: python3 tests/unproved.py
 
-A copy of the repository gets them as crates, with the dependencies that unproved/crates.txt names,
+A copy of the repository gets them as crates, with the dependencies that unproved/depends.txt names,
 and `rt try --test` builds and runs them. Nothing here is proved: the tests have run-time checks
 instead. The last line is `N passed, M failed`.
 """
@@ -28,7 +28,7 @@ def copy_repository(to):
     shutil.copy(TOP / "HANDLES", to)
     shutil.copytree(TOP / "crates", to / "crates",
                     ignore=shutil.ignore_patterns("out", "wrong", "must-fail", ".*"))
-    listed = (CRATES / "crates.txt").read_text()
+    listed = (CRATES / "depends.txt").read_text()
     (to / "crates.txt").write_text((TOP / "crates.txt").read_text() + "\n" + listed)
     names = [it.partition(":")[0].split()[0] for it in listed.splitlines() if it.strip()]
     for name in names:
