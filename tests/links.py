@@ -55,7 +55,7 @@ def pages():
 
 def code_of(path):
     """A source without its comments."""
-    mark = {".antt": "--", ".rt": "//", ".bench": "//", ".rs": "//"}.get(path.suffix, "#")
+    mark = {".antt": "--", ".rt": "//", ".bench": "//", ".rs": "//", ".test": "//"}.get(path.suffix, "#")
     return re.sub(rf"(?m)(?:^|\s){mark}.*$", "", path.read_text())
 
 
@@ -92,7 +92,7 @@ def other_names():
             yield it.stem
             if it.suffix in (".c", ".h", ".lua"):
                 yield from re.findall(r"\w+", it.read_text())
-            elif it.suffix in (".bench", ".rs"):
+            elif it.suffix in (".bench", ".rs", ".test"):
                 yield from declared_in(code_of(it))
             elif it.suffix in ("", ".py"):
                 yield from re.findall(r"(?m)^ *(?:def|class) (\w+)", it.read_text(errors="replace"))

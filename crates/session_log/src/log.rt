@@ -86,8 +86,8 @@ impl Eprint for Log {
     }
 }
 
-// Writes bytes of a queue. Reports after their last whole line how many lines were dropped: a report
-// stands on a line of its own.
+// Writes bytes of a queue. After the last line end in them it reports how many lines were dropped,
+// so that a report stands on a line of its own.
 fn write_piece<W: Write>(output: &mut W, piece: &[u8], queue: &LogQueue) {
     let (lines, rest) = match piece.iter().rposition(|byte| *byte == b'\n') {
         Some(end) => piece.split_at(end + 1),

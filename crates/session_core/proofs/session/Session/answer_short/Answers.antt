@@ -24,7 +24,8 @@ returns-in-Ok-clause-ok c = elim c.match-asked.branch [
       let is = set_frame c.in-Await.asked c.args.reply.now w.in-Set.id w.frame-framed.result
       c.in-Ok.text _ w.in-Set.is (sym w.framed-is ∙ c.in-Ok.is) w.frame-framed.ensures.text
       w.set_answer.ensures in
-      rw (c.put-in-Ok.ensures, c.put-in-Ok-2.ensures) (answers_any c.args.self.now _ c.in-Await.asked c.args.reply.now c.in-Ok.text _ c.in-Await.is
+      rw (c.put-in-Ok.ensures, c.put-in-Ok-2.ensures)
+      (answers_any c.args.self.now _ c.in-Await.asked c.args.reply.now c.in-Ok.text _ c.in-Await.is
       is (short_reply c.in-Await.asked c.args.reply.now _ is c.holds_range.ensures.greatest)
       (set_begins_none c.in-Await.asked c.args.reply.now w.in-Set.id w.in-Set.is) refl)
   | in-Action w ↦
@@ -32,7 +33,8 @@ returns-in-Ok-clause-ok c = elim c.match-asked.branch [
       w.frame-framed-in-Action.result c.in-Ok.text _ w.in-Action.is
       (sym w.framed-is ∙ c.in-Ok.is) w.frame-framed-in-Action.ensures.text
       w.action_answer.ensures in
-      rw (c.put-in-Ok.ensures, c.put-in-Ok-2.ensures) (answers_any c.args.self.now _ c.in-Await.asked c.args.reply.now c.in-Ok.text _ c.in-Await.is
+      rw (c.put-in-Ok.ensures, c.put-in-Ok-2.ensures)
+      (answers_any c.args.self.now _ c.in-Await.asked c.args.reply.now c.in-Ok.text _ c.in-Await.is
       is (short_reply c.in-Await.asked c.args.reply.now _ is c.holds_range.ensures.greatest)
       (action_begins_none c.in-Await.asked c.args.reply.now w.in-Action.id w.in-Action.is) refl)
 ]
