@@ -13,7 +13,6 @@ import datetime
 import html.parser
 import io
 import json
-import os
 import pathlib
 import re
 import shutil
@@ -25,9 +24,9 @@ import tempfile
 sys.dont_write_bytecode = True  # importing the modules of tests/ leaves no files
 
 import serving
+from programs import HEAD_END
 from serving import PATIENCE, TOP, check
 
-HEAD_END = os.environ.get("HEAD_END") or TOP / "crates" / "head_end_cli" / "out" / "head_end_cli"
 SCRIPT = TOP / "bin" / "campaign_report"
 BROWSERS = ("chromium", "chromium-browser", "google-chrome")
 COLUMNS = ["name", "address", "verb", "outcome", "number", "sent", "begun_at", "ended_at",

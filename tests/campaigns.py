@@ -25,13 +25,13 @@ import time
 sys.dont_write_bytecode = True  # importing the modules of tests/ leaves no files
 
 import serving
+from programs import HEAD_END
 from one_node_slurm import LONG_PATIENCE, Slurm, missing_commands
 from scripted_meters import AARQ, CROWD, HOLDING, RELEASE, REQUESTS, SCRIPTS, Crowd, ScriptedMeter, Unheard, answer_to, answers_slowly, \
     answers_the_release, does_it, loopback_address
 from serving import (MODE, PASSWORD, PATIENCE, PLAYER, SERVER, TOP, Client, Server, check,
                      play_trace, process_text, test, wait_until)
 
-HEAD_END = os.environ.get("HEAD_END") or TOP / "crates" / "head_end_cli" / "out" / "head_end_cli"
 CAMPAIGN = TOP / "bin" / "campaign"
 
 METERS = 200

@@ -9,7 +9,10 @@ import subprocess
 import sys
 import tempfile
 
-TOP = pathlib.Path(__file__).resolve().parent.parent
+sys.dont_write_bytecode = True  # importing the modules of tests/ leaves no files
+
+from programs import TOP, are_built, executable
+
 # The time at the head of a line of a server's log.
 TIME = re.compile(rb"^\d{4}-\d\d-\d\dT\d\d:\d\d:\d\d\.\d{3}Z ", re.M)
 
@@ -711,13 +714,11 @@ def differs(want, got):
 def main():
     passed = failed = 0
     for crate in sorted({case[1] for case in CASES}):
-        if not (TOP / "crates" / crate / "out" / crate).exists():
-            print(f"crates/{crate}/out/{crate} is missing: run bin/build or bin/test")
-            print(f"0 passed, {len(CASES)} failed")
+        if not are_built(executable(crate.removesuffix("_cli"))):
             return 1
     cases = [*((case, ENVIRONMENT) for case in CASES), *((case, WRONG_VARIABLE) for case in VARIABLE_CASES)]
     for (name, crate, words, stdin, stdout, stderr, status), environment in cases:
-        program = TOP / "crates" / crate / "out" / crate
+        program = executable(crate.removesuffix("_cli"))
         try:
             run = subprocess.run([program, *words], input=stdin, capture_output=True, timeout=60, env=environment)
         except (OSError, subprocess.TimeoutExpired) as error:

@@ -8,12 +8,12 @@ the Blue Book's tables of transitions and the rules of class 71; none comes from
 output.
 """
 
-import pathlib
 import subprocess
 import sys
 
-TOP = pathlib.Path(__file__).resolve().parent.parent
-PLAYER = TOP / "crates" / "trace_player_cli" / "out" / "trace_player_cli"
+sys.dont_write_bytecode = True  # importing the modules of tests/ leaves no files
+
+from programs import PLAYER, TOP
 
 MANAGEMENT, PUBLIC = 1, 16
 

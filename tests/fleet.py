@@ -21,14 +21,12 @@ import tempfile
 import threading
 import time
 
+sys.dont_write_bytecode = True  # importing the modules of tests/ leaves no files
+
 import serving
+from programs import FLEET, HEAD_END, PLAYER, TOP
 from serving import check, wait_until
 
-TOP = pathlib.Path(__file__).resolve().parent.parent
-CRATES = TOP / "crates"
-FLEET = os.environ.get("METER_FLEET") or CRATES / "meter_fleet_cli" / "out" / "meter_fleet_cli"
-PLAYER = os.environ.get("TRACE_PLAYER") or CRATES / "trace_player_cli" / "out" / "trace_player_cli"
-HEAD_END = os.environ.get("HEAD_END") or CRATES / "head_end_cli" / "out" / "head_end_cli"
 CAMPAIGN = TOP / "bin" / "campaign"
 
 PASSWORD = "12345678"

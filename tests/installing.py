@@ -9,12 +9,14 @@ What a missing tool would test (man, zsh, fish, GNU parallel, matplotlib) is ski
 
 usage: tests/installing.py
 """
+import hashlib
 import os
 import re
 import shutil
 import subprocess
 import sys
 import tempfile
+import time
 from pathlib import Path
 
 TOP = Path(__file__).resolve().parent.parent
@@ -453,6 +455,17 @@ def linked_scripts(folder):
 
 # An rt that prints its words.
 RT = '#!/bin/sh\nfor it; do echo "$it"; done\n'
+# A bin/build that can't build without a proof; and one that makes an executable, which prints its
+# words, and says so.
+NO_BUILD = "#!/bin/sh\nexit 1\n"
+BUILD = """#!/bin/sh
+[ "$1" = --unproved ] || exit 1
+echo built >&2
+made=$(dirname "$(dirname "$0")")/crates/$2_cli/out/unproved
+mkdir -p "$made"
+printf '#!/bin/sh\\nfor it; do echo "$it"; done\\n' > "$made/$2_cli"
+chmod 700 "$made/$2_cli"
+"""
 # What bin/manuals reads of the sources of the programs.
 SOURCES = ("arguments.rt", "options.rt")
 
@@ -460,6 +473,7 @@ SOURCES = ("arguments.rt", "options.rt")
 def copy_without_executables(top):
     """Copies what bin/.run and bin/manuals use, without the executables, to a folder."""
     (top / "bin").mkdir(parents=True)
+    shutil.copy(TOP / "crates.txt", top)
     for name in (*PROGRAMS, ".run", "manuals"):
         shutil.copy(TOP / "bin" / name, top / "bin" / name)
     for it in PROGRAMS:
@@ -479,12 +493,13 @@ def unproved(root, room):
     tools.mkdir()
     (tools / "rt").write_text(RT)
     (tools / "rt").chmod(0o700)
+    write_script(top / "bin" / "build", NO_BUILD)
     (room / "run.trace").touch()
     environment = {**os.environ, "PATH": f"{tools}:{os.environ['PATH']}"}
 
-    def run_in(words):
+    def run_in(words, **more):
         name, *words = words.split()
-        return name, run(top / "bin" / name, *words, cwd=room, env=environment)
+        return name, run(top / "bin" / name, *words, cwd=room, env=environment | more)
 
     for words, wanted in (
             ("head_end status --ledger some/ledger --format csv",
@@ -496,8 +511,8 @@ def unproved(root, room):
         name, ran = run_in(words)
         found = ran.stdout.removeprefix("try\n--\n").replace("\n", " ").strip()
         yield f"unproved: {words}", (ran.returncode, found) == (0, wanted)
-        yield (f"unproved: {words}: what builds it",
-               f"{name}: bin/build {name} builds the proved one\n" in ran.stderr)
+        yield (f"unproved: {words}: what runs it",
+               ran.stderr.endswith(f"{name}: running it once by rt try\n"))
     for words in ("head_end run --ledger ledger", "head_end ask --ledger ledger",
                   "meter_server serve --password --helpless", "meter_fleet serve",
                   "meter_fleet --nonsense", "meter_fleet"):
@@ -505,7 +520,60 @@ def unproved(root, room):
         yield f"unproved: {words}", (ran.returncode, ran.stdout) == (2, "")
         yield (f"unproved: {words}: what builds it",
                f"older than the sources: run bin/build {name} first (" in ran.stderr)
+    yield from kept_builds(top, run_in)
+    yield from recorded_builds(top)
     yield from answers_without_build(root, top, room / "tools without rt")
+
+
+def write_script(path, text):
+    path.write_text(text)
+    path.chmod(0o700)
+
+
+def kept_builds(top, run_in):
+    """Checks that an unproved executable is built once, runs until the sources change, and serves
+    and calls nobody unasked."""
+    write_script(top / "bin" / "build", BUILD)
+    source = top / "crates" / "trace_player_cli" / "src" / "arguments.rt"
+    long_ago = time.time() - 60
+    for it in top.glob("crates/*/src/*.rt"):
+        os.utime(it, (long_ago, long_ago))
+    name, ran = run_in("trace_player --from 2 run.trace")
+    yield "unproved: built once", (ran.returncode, ran.stdout) == (0, "--from\n2\nrun.trace\n")
+    yield "unproved: built once: what it says", ran.stderr.endswith(
+        f"built\n{name}: NOT PROVED: bin/build {name} proves and builds it\n")
+    name, ran = run_in("trace_player run.trace")
+    yield "unproved: kept", (ran.returncode, ran.stdout, ran.stderr) == (
+        0, "run.trace\n", f"{name}: NOT PROVED: bin/build {name} proves and builds it\n")
+    now = time.time() + 60
+    os.utime(source, (now, now))
+    name, ran = run_in("trace_player run.trace")
+    yield "unproved: built anew after a change", "built\n" in ran.stderr
+    os.utime(source, (long_ago, long_ago))
+    name, ran = run_in("meter_server serve")
+    yield "unproved: a server is not built unasked", (ran.returncode, ran.stdout) == (2, "")
+    name, ran = run_in("meter_server serve", WESPLINA_UNPROVED="1")
+    yield "unproved: a server, if asked", (ran.returncode, ran.stdout) == (0, "serve\n")
+    name, ran = run_in("meter_server serve", WESPLINA_UNPROVED="1")
+    yield "unproved: a server, if asked: no notice", (ran.stdout, ran.stderr) == ("serve\n", "")
+
+
+def recorded_builds(top):
+    """Checks that a new executable is taken for a proved one only with the record of its bytes."""
+    made = top / "crates" / "trace_player_cli" / "out" / "trace_player_cli"
+
+    def where():
+        ran = run(top / "bin" / ".run", "--where", "trace_player_cli")
+        return ran.returncode, ran.stdout
+
+    write_script(made, "#!/bin/sh\nexit 0\n")
+    yield "unproved: a file without a record is not proved", where() == (1, "")
+    digest = hashlib.sha256(made.read_bytes()).hexdigest()
+    made.with_suffix(".built").write_text(f"{digest} commit 1\n")
+    yield "unproved: a file with its record is proved", where() == (0, f"{made}\n")
+    write_script(made, "#!/bin/sh\nexit 1\n")
+    yield "unproved: a file with the record of another is not proved", where() == (1, "")
+    made.unlink()
 
 
 def answers_without_build(root, top, tools):
@@ -528,7 +596,7 @@ def answers_without_build(root, top, tools):
             ran = run(top / "bin" / name, flag, env=without)
             number = run(root / "libexec/wesplina" / name, flag).stdout.strip()
             yield (f"unproved: {name} {flag}", (ran.returncode, ran.stdout, ran.stderr)
-                   == (0, f"{number} (not built from these sources)\n", ""))
+                   == (0, f"{number} (NOT PROVED: not built from these sources)\n", ""))
     ran = run(top / "bin" / "head_end", "run", "--passwords", "passwords", "--help", env=without)
     wanted = run(root / "libexec/wesplina/head_end", "run", "--help", env=without)
     yield "unproved: --help after other words", (ran.stdout, ran.stderr) == (wanted.stdout, "")

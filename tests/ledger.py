@@ -35,13 +35,13 @@ sys.dont_write_bytecode = True  # importing the modules of tests/ leaves no file
 import serving
 from core_rows import NEW_METER
 from counted_meters import COMMANDS, CountedMeters, kind_of
+from programs import HEAD_END
 from journal import NOBODY, SmallDisk, in_folder
 from refusing import Refusing, call_numbers
 from scripted_meters import CROWD, REQUESTS, ScriptedMeter, answer_to, answers_slowly
 from scripted_meters import closes_without_answer, does_it
 from serving import PASSWORD, PATIENCE, Server, TOP, check, test
 
-HEAD_END = os.environ.get("HEAD_END") or TOP / "crates" / "head_end_cli" / "out" / "head_end_cli"
 
 JOBS = 300
 KILLED, LONG_KILLED = 200, 2_000  # campaigns that are killed

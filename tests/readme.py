@@ -3,6 +3,8 @@
 shows. The blocks run in a temporary folder that has links to bin/ and crates/, and what they leave
 running is killed.
 
+With WESPLINA_UNPROVED=1 the programs run unproved, and bin/build is left out.
+
 usage: tests/readme.py     (needs the built programs, and port 4059 of the loopback interface)"""
 import contextlib
 import os
@@ -13,7 +15,10 @@ import sys
 import tempfile
 from pathlib import Path
 
-TOP = Path(__file__).resolve().parent.parent
+sys.dont_write_bytecode = True  # importing the modules of tests/ leaves no files
+
+from programs import IS_UNPROVED, TOP
+
 SECTIONS = ("First commands", "A session over a socket")
 PORT = 4059
 LINKS = ("bin", "crates")  # what the blocks use
@@ -39,7 +44,7 @@ def is_free(port):
 def run_block(lines, folder):
     """Runs the commands of a block as a script in a folder, and kills what they leave running.
     Returns the lines of standard output, and standard error."""
-    script = "\n".join(it[2:] for it in lines if it.startswith("$ "))
+    script = "\n".join(it[2:] for it in lines if it.startswith("$ ") and not (IS_UNPROVED and it == "$ bin/build"))
     process = subprocess.Popen(["bash", "-c", script], cwd=folder, stdin=subprocess.DEVNULL,
                                stdout=subprocess.PIPE, stderr=subprocess.PIPE, text=True,
                                start_new_session=True)

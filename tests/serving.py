@@ -17,9 +17,9 @@ import threading
 import time
 import traceback
 
-TOP = pathlib.Path(__file__).resolve().parent.parent
-SERVER = os.environ.get("METER_SERVER") or TOP / "crates" / "meter_server_cli" / "out" / "meter_server_cli"
-PLAYER = os.environ.get("TRACE_PLAYER") or TOP / "crates" / "trace_player_cli" / "out" / "trace_player_cli"
+sys.dont_write_bytecode = True  # importing the modules of tests/ leaves no files
+
+from programs import PLAYER, SERVER, TOP, are_built
 
 PASSWORD = "12345678"
 PATIENCE = 60  # the time limit of each wait, in seconds
@@ -414,15 +414,6 @@ def test(function):
     finally:
         while servers:
             servers.pop().stop()
-
-
-def are_built(*executables):
-    """Whether these executables are there. The first that is missing is reported as a failed check."""
-    for executable in executables:
-        if not os.access(executable, os.X_OK):
-            print(f"{executable} is missing: run bin/build or bin/test\n0 passed, 1 failed")
-            return False
-    return True
 
 
 def run_tests(tests):

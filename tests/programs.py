@@ -1,0 +1,25 @@
+"""The executables that the scripts of tests/ run: the proved ones; those of unproved code if
+WESPLINA_UNPROVED is 1; or those that METER_SERVER, TRACE_PLAYER, HEAD_END and METER_FLEET name."""
+import os
+import pathlib
+
+TOP = pathlib.Path(__file__).resolve().parent.parent
+IS_UNPROVED = os.environ.get("WESPLINA_UNPROVED") == "1"
+
+
+def executable(program):
+    """The executable of a program."""
+    folder, crate = TOP / "crates" / f"{program}_cli" / "out", f"{program}_cli"
+    return os.environ.get(program.upper()) or (folder / "unproved" if IS_UNPROVED else folder) / crate
+
+
+SERVER, PLAYER, HEAD_END, FLEET = map(executable, ("meter_server", "trace_player", "head_end", "meter_fleet"))
+
+
+def are_built(*executables):
+    """Whether these executables are there. The first that is missing is reported as a failed check."""
+    for it in executables:
+        if not os.access(it, os.X_OK):
+            print(f"{it} is missing: run bin/build or bin/test\n0 passed, 1 failed")
+            return False
+    return True
