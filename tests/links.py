@@ -76,14 +76,15 @@ ALL_TYPES = {it for it in ALL_DECLARED if it[0].isupper()}
 SPECS = {name: {word for it in folder.glob("specs/*.antt") for word in re.findall(r"\w+", code_of(it))} for name, folder in CRATES.items()}
 EDITS = {crate: {it.stem for part in ("wrong", "wrong/long", "must-fail") for it in (folder / part).glob("*.edit")} for crate, folder in CRATES.items()}
 ALL_EDITS = set().union(*EDITS.values())
-# Each test with the sources of its crate.
-TESTS = {it: text for text in SOURCES.values() for it in re.findall(r"#\[test\]\s*(?:#\[[^\n]*\]\s*)*(?:pub )?fn (\w+)", text)}
+# The sources of the tests that are not proved, by crate; each test with the sources of its crate.
+UNPROVED = {it.name: "\n".join(code_of(file) for file in sorted(it.rglob("*.test"))) for it in (TOP / "tests" / "unproved").iterdir() if it.is_dir()}
+TESTS = {it: text for text in (*SOURCES.values(), *UNPROVED.values()) for it in re.findall(r"#\[test\]\s*(?:#\[[^\n]*\]\s*)*(?:pub )?fn (\w+)", text)}
 
 
 def other_names():
     """The names of crates, edits, files and of the toolchain's libraries, and those that benchmarks,
     scripts and C files declare; the words of proofs/."""
-    yield from (*CRATES, *ALL_EDITS)
+    yield from (*CRATES, *UNPROVED, *ALL_EDITS)
     yield from re.findall(r"\w+", (TOP / "crates.txt").read_text())
     for it in TOP.glob("crates/*/proofs/*.antt"):
         yield from re.findall(r"\w+", code_of(it))

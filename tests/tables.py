@@ -27,6 +27,8 @@ FILES = {
     "crates/words_tests/src/lines.rt": "use words::Line;\n\n#[test]\nfn reads() {}\n",
     "crates/words_tests/src/locks.rt": "use lock::Lock;\nuse words::Line;\n\nmod two;\n",
     "crates/words_tests/src/locks/two.rt": "#[test]\nfn locks_again() {}\n",
+    "tests/unproved/depends.txt": "more_tests: words\n",
+    "tests/unproved/more_tests/lib.test": "use words::Line;\n\n#[test]\nfn more() {}\n",
     "crates/words/specs/Lines.antt": "use Rattle.words.specs.Parts.{part}\n",
     "crates/words/specs/Parts.antt": "", "crates/words/specs/Inside.antt": "",
     "crates/words/specs/Numbers.antt": "",
@@ -82,11 +84,13 @@ WRITTEN = {
         "| Mode | Remote cut | Local cut |\n", "| 1 | 0 Off | no |\n"),
     "docs/ARCHITECTURE.md": (
         "| [`words`](../crates/words/README.md) | Words of a line ([a page](PROMISES.md)) "
-        "| kit: `hex` | [words_tests/lines](../crates/words_tests/src/lines.rt) |\n",
+        "| kit: `hex` | [words_tests/lines](../crates/words_tests/src/lines.rt), "
+        "[more_tests/lib](../tests/unproved/more_tests/lib.test) |\n",
         "| [`lock`](../crates/lock/README.md) | A lock | `words` | [lock/lib](../crates/lock/src/"
         "lib.rt), [words_tests/locks](../crates/words_tests/src/locks.rt) |\n",
         "| A device | `words` | [tests/device.py](../tests/device.py) |\n",
-        "| A program | `lock` |  |\n", "| `words_tests` | `words`, `lock` |\n"),
+        "| A program | `lock` |  |\n", "| `words_tests` | `words`, `lock` |\n",
+        "### Tests that are not proved\n\n", "| `more_tests` | `words` |\n"),
     "docs/DEFINITIONS.md": (
         "[words](../crates/words/specs/Numbers.antt).\n", "## Bytes and text\n",
         ROW.format("Lines", "a text", "[1](PROMISES.md#p1)"),
