@@ -16,7 +16,7 @@ from concurrent.futures import ThreadPoolExecutor
 
 sys.dont_write_bytecode = True
 TOP = pathlib.Path(__file__).resolve().parent.parent
-PROGRAMS = ("meter_server", "head_end", "trace_player", "meter_fleet")
+PROGRAMS = ("meter_server", "head_end", "trace_player", "meter_fleet", "run_tests")
 PATIENCE = 1_200
 # Scripts that run one after the other, since they listen at fixed ports; the longer ones first.
 LANES = [

@@ -19,16 +19,17 @@ import sys
 sys.dont_write_bytecode = True  # importing the modules of tests/ leaves no files
 
 import serving
+from programs import tests_of
 from command_lines import AARE, AARQ, ENDED_FILE, GET_STATE, GOT_STATE, TRACE
 from refusing import Refusing, call_numbers
 from scripted_meters import AARQ as CLIENT_AARQ
 from scripted_meters import REQUESTS, ScriptedMeter
 from serving import AARE as OPENING
-from serving import (DISCONNECT, MODE, PASSWORD, PLAYER, REFUSED, SERVER, STATE, TOP, Client,
+from serving import (DISCONNECT, MODE, PASSWORD, PLAYER, REFUSED, SERVER, STATE, Client,
                      Server, Vanished, check, is_part_of, play_trace, test, wait_until)
 from campaigns import HEAD_END
 
-RUNS = os.environ.get("RUN_TESTS") or TOP / "crates" / "run_tests" / "out" / "run_tests_tests"
+RUNS = tests_of("run_tests")
 # The test of the sampler, which checks the scan of each block.
 SAMPLER = "sampling::blocks_are_scanned_with_the_thresholds_read_last"
 
