@@ -32,8 +32,11 @@ def is_there(file, name):
     text = path.read_text()
     if path.suffix in (".rt", ".test"):
         return re.search(rf"#\[test\]\s+fn {re.escape(name)}\(", text) is not None
+    if path.suffix == ".py" and re.search(rf"^def {re.escape(name)}\(", text, re.M):
+        # (a function that nothing calls is no test)
+        return len(re.findall(rf"\b{re.escape(name)}\b", text)) > 1
     if path.suffix == ".py":
-        return re.search(rf"^def {re.escape(name)}\(|^{re.escape(name)} = |\"{re.escape(name)}\"", text, re.M) is not None
+        return re.search(rf"^{re.escape(name)} = |\"{re.escape(name)}\"", text, re.M) is not None
     return name in text.splitlines()
 
 

@@ -555,7 +555,10 @@ def kept_builds(top, run_in):
     name, ran = run_in("meter_server serve", WESPLINA_UNPROVED="1")
     yield "unproved: a server, if asked", (ran.returncode, ran.stdout) == (0, "serve\n")
     name, ran = run_in("meter_server serve", WESPLINA_UNPROVED="1")
-    yield "unproved: a server, if asked: no notice", (ran.stdout, ran.stderr) == ("serve\n", "")
+    yield "unproved: a server, if asked: what it says", (ran.stdout, ran.stderr) == (
+        "serve\n", f"{name}: NOT PROVED: bin/build {name} proves and builds it\n")
+    name, ran = run_in("meter_server serve", WESPLINA_UNPROVED="10")
+    yield "unproved: a server, if asked in another way", (ran.returncode, ran.stdout) == (2, "")
 
 
 def recorded_builds(top):

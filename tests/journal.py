@@ -308,7 +308,7 @@ def a_damaged_journal_is_refused(name, folder):
         made = start_on(journal.path, "--stop-with-input")
         whole = whole_lines(held)
         why = (f"{journal.path}: damaged after byte {len(whole)}, and whole lines follow: "
-               "restore a copy, or keep this one and cut it there\nfault: input\n")
+               "keep a copy, and cut it there\nfault: input\n")
         check(f"{name}: {what}", is_fault(made, 2, "input") and made[2] == why, made)
         found = {it.name for it in folder.iterdir()}
         check(f"{name}: {what}, unchanged", journal.path.read_bytes() == held
@@ -361,8 +361,8 @@ def a_journal_of_version_1_is_refused(name, folder):
     held = "".join(f"{it}\n" for it in ["RELAYTRACE 1", *lines[1:], "button"])
     path.write_text(held)
     made = start_on(path, "--stop-with-input", "--device", "METER7")
-    why = (f"{path}: expected a journal, a trace of version 2 with `events -`; found counted "
-           "events or version 1\nfault: input\n")
+    why = (f"{path}: expected a trace of version 2 with `events -`, found counted events or "
+           "version 1\nfault: input\n")
     check(name, is_fault(made, 2, "input") and made[2] == why, made)
     check(f"{name}: unchanged", path.read_text() == held)
     check(f"{name}: it plays", len(lines_played(path)) == 1)
@@ -385,14 +385,16 @@ def files_of_runs(folder, *options):
 def files_are_made_for_their_owner(name, folder):
     """With any umask. (The journal has the mode of its draft, which was renamed.)"""
     names = ("journal", "journal.1", "journal.cut", "relay")
-    before = os.umask(0o022)
+    before = os.umask(0)
     try:
-        for which, (mode, options) in enumerate(((0o600, ()), (0o640, ("--group-readable",)))):
-            inner = folder / str(which)
-            inner.mkdir()
-            wanted = {**{it: oct(mode) for it in names}, "journal.lock": oct(0o600)}
-            found = files_of_runs(inner, *options)
-            check(f"{name}: {options}", found == wanted, found)
+        for mask in (0o022, 0o077):
+            for mode, options in ((0o600, ()), (0o640, ("--group-readable",))):
+                os.umask(mask)
+                inner = folder / f"{mask:o} {mode:o}"
+                inner.mkdir()
+                wanted = {**{it: oct(mode) for it in names}, "journal.lock": oct(0o600)}
+                found = files_of_runs(inner, *options)
+                check(f"{name}: {options}, mask {mask:o}", found == wanted, found)
     finally:
         os.umask(before)
 

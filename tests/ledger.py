@@ -750,6 +750,33 @@ def a_ledger_without_its_log_is_refused(name, folder):
 
 
 @in_folder
+def a_linked_ledger_has_the_log_of_its_file(name, folder):
+    """SQLite follows a symbolic link: the log is next to the file that it leads to."""
+    ledger, link = folder / "ledger", folder / "link"
+    with killed_run(name, ledger) as (jobs, meters):
+        link.symlink_to(ledger)
+        ran = run(link, text_of(jobs))
+        wanted = report_of(jobs, ["done 0", "unknown"])
+        check(f"{name}: with its log", ran[:2] == (0, wanted), ran)
+        log_of(ledger).unlink()
+        log_of(link).touch()
+        for what, command in (("run", lambda it: run(it, text_of(jobs))), ("status", status)):
+            ran = command(link)
+            check(f"{name}: {what} without it", is_refused(ran), ran)
+        talks = [len(it.talks) for it in meters]
+        check(f"{name}: no meter is called again", talks == [1, 1], talks)
+
+
+@in_folder
+def a_pipe_is_no_ledger(name, folder):
+    """It is not opened: that would wait for a writer."""
+    os.mkfifo(folder / "ledger")
+    for what, command in (("run", lambda it: run(it, "m1 127.0.0.1:1 state\n")), ("status", status), ("ask", ask)):
+        ran = command(folder / "ledger")
+        check(f"{name}: {what}", ran.status == 3 and ran.report == "", ran)
+
+
+@in_folder
 def a_ledger_has_its_list_before_a_command(name, folder):
     """A kill right after the first commands leaves the list of jobs in the file itself."""
     ledger = folder / "ledger"
@@ -982,7 +1009,8 @@ TESTS = (a_ledger_changes_no_row, killed_campaigns_command_nobody_twice, another
          each_meter_has_its_password, the_state_is_that_of_the_ledger,
          meters_without_an_answer_are_asked, nothing_to_ask_changes_nothing,
          other_files_of_answers_are_refused, what_has_no_state_is_refused,
-         a_ledger_without_its_log_is_refused, a_ledger_has_its_list_before_a_command,
+         a_ledger_without_its_log_is_refused, a_linked_ledger_has_the_log_of_its_file,
+         a_pipe_is_no_ledger, a_ledger_has_its_list_before_a_command,
          an_empty_file_is_a_ledger_of_no_run, a_ledger_that_a_killed_run_half_made_is_completed,
          a_ledger_that_may_only_be_read_is_shown, what_is_no_ledger_gets_no_log,
          a_full_disk_stops_the_commands,

@@ -262,6 +262,26 @@ def a_pipe_that_is_made_anew_is_given_changes(name):
         server.end_in_order(name)
 
 
+def a_pipe_that_is_removed_ends_the_server(name):
+    """A regular file in its place would keep the reader from making the pipe again, and no further
+    change would reach it. So the client is not answered."""
+    with tempfile.TemporaryDirectory() as folder:
+        relay = pathlib.Path(folder, "relay")
+        os.mkfifo(relay)
+        server = QuietServer("--relay", str(relay))
+        relay.unlink()
+        try:
+            answer = server.first.execute(DISCONNECT)
+        except serving.Vanished:
+            answer = None
+        check(f"{name}: no answer", answer is None, answer)
+        check(f"{name}: the log", is_logged(server, relay, OPENED_AGAIN), server.errors)
+        status, _, errors = server.end()
+        told = f"{relay}: the relay failed: the output can't be written\n"
+        check(f"{name}: the end", status == 3 and told in errors, status, errors)
+        check(f"{name}: no file is made", not relay.exists())
+
+
 def a_file_that_is_removed_is_made_again(name):
     with tempfile.TemporaryDirectory() as folder:
         relay = pathlib.Path(folder, "relay")
@@ -343,6 +363,7 @@ def main():
         a_change_is_written_after_its_event_is_on_the_disk,
         a_file_of_the_journal_is_refused,
         a_pipe_that_is_made_anew_is_given_changes,
+        a_pipe_that_is_removed_ends_the_server,
         a_file_that_is_removed_is_made_again,
         a_file_that_is_renamed_keeps_its_text,
         a_file_that_is_there_keeps_its_mode,

@@ -90,7 +90,9 @@ def stored_in(folder):
 
 
 def names_of(folder):
-    return sorted(str(it.relative_to(folder)) for it in folder.rglob("*"))
+    """What is in a folder of a service, but for the lock."""
+    names = sorted(str(it.relative_to(folder)) for it in folder.rglob("*"))
+    return [it for it in names if it != "lock"]
 
 
 @in_folder
@@ -218,16 +220,18 @@ def a_killed_server_has_its_journal(name, folder):
 
 @in_folder
 def files_are_for_the_user_or_the_group(name, folder):
-    for options, mode in (((), 0o600), (("--group-readable",), 0o640)):
-        here = folder.with_name(f"meter {mode:o}")
+    cases = [(mask, *case) for mask in (0o022, 0o077)
+             for case in (((), 0o600), (("--group-readable",), 0o640))]
+    for mask, options, mode in cases:
+        here = folder.with_name(f"meter {mask:o} {mode:o}")
         service = Service(here, "--journal", str(here / "journal"), "--relay", str(here / "supply"),
-                          *options)
+                          *options, umask=mask)
         client = service.client()
         check(f"{name}: mode {mode:o}", client.set(MODE, "1601") == "code 0")
         client.close()
         modes = modes_of(here)
         check(f"{name}: the console", modes.pop("console", None) == 0o620)
-        locks = {modes.pop(it, None) for it in ("journal.lock",)}
+        locks = {modes.pop(it, None) for it in ("journal.lock", "lock")}
         check(f"{name}: {mode:o} of a run",
               set(modes.values()) == {mode} and locks == {0o600}, modes)
         check(f"{name}: ends", service.ends()[0] == 0)
@@ -254,6 +258,50 @@ def a_killed_service_is_recovered(name, folder):
     status, errors = service.ends()
     check(f"{name}: both traces",
           status == 0 and names_of(folder / "traces") == ["000001.trace", "000002.trace"], errors)
+
+
+@in_folder
+def a_start_that_fails_keeps_what_a_killed_run_left(name, folder):
+    """After a kill only the journal has the state of the meter. A start that serves nobody does not
+    change that: without the journal the meter is not resumed."""
+    path = str(folder / "journal")
+    check(f"{name}: a first run",
+          state_and_end(name, Service(folder, "--journal", path)) == "value 1601")
+    service = Service(folder, "--journal", path)
+    client = service.client()
+    replies = client.set(MODE, "1604"), client.execute(DISCONNECT)
+    check(f"{name}: is disconnected", replies == ("code 0", "code 0"), replies)
+    os.kill(server_of(service), signal.SIGKILL)
+    client.close()
+    check(f"{name}: killed", service.end()[0] == 128 + 9)
+    status, _, errors = Service(folder, "--journal", path, "--depth", "0").end()
+    check(f"{name}: a start that fails", status == 2 and "--depth" in errors, status, errors)
+    status, _, errors = Service(folder).end()
+    check(f"{name}: without the journal", status == 2 and path in errors, status, errors)
+    check(f"{name}: with it",
+          state_and_end(name, Service(folder, "--journal", path)) == "value 1600")
+
+
+@in_folder
+def a_start_beside_a_server_that_ends_keeps_its_trace(name, folder):
+    """The service alone is killed while its server has an open session; the next start finds the
+    journal locked. What the server prints at its end is stored by a later start."""
+    path = str(folder / "journal")
+    service = Service(folder, "--journal", path)
+    client = service.client()
+    replies = client.set(MODE, "1604"), client.execute(DISCONNECT)
+    check(f"{name}: is disconnected", replies == ("code 0", "code 0"), replies)
+    service.process.kill()
+    service.process.wait()
+    status, _, errors = Service(folder, "--journal", path).end()
+    check(f"{name}: the journal is locked",
+          status == 3 and "another server has this journal" in errors, status, errors)
+    client.close()
+    check(f"{name}: the server ends in order",
+          wait_until(lambda: (folder / "next.trace").read_text().endswith("\n")))
+    check(f"{name}: the next start",
+          state_and_end(name, Service(folder, "--journal", path)) == "value 1600")
+    check(f"{name}: both traces", names_of(folder / "traces") == ["000001.trace", "000002.trace"])
 
 
 @in_folder
@@ -422,6 +470,28 @@ def a_folder_of_an_older_version_is_judged_by_its_events(name, folder):
     check(f"{name}: a run without the journal", service.ends()[0] == 0)
     stored.unlink(missing_ok=True)
     check_refused(name, folder, 3)
+
+
+@in_folder
+def a_journal_with_the_same_last_event_is_judged_by_its_state(name, folder):
+    """Both end with a press of the button, after which one is disconnected and the other is not."""
+    journal = ("--journal", str(folder / "journal"))
+    service = Service(folder, *journal)
+    client = service.client()
+    check(f"{name}: mode", client.set(MODE, "1601") == "code 0")
+    for state in ("value 1602", "value 1601"):
+        service.write("button\n")
+        check(f"{name}: {state}", wait_until(lambda: client.get(STATE) == state))
+    client.close()
+    check(f"{name}: a run with a journal", service.ends()[0] == 0)
+    service = Service(folder)
+    client = service.client()
+    service.write("button\n")
+    check(f"{name}: a press", wait_until(lambda: client.get(STATE) == "value 1602"))
+    client.close()
+    check(f"{name}: a run without", service.ends()[0] == 0)
+    (folder / "stored").unlink(missing_ok=True)
+    check_refused(name, folder, 2)
 
 
 @in_folder
@@ -619,11 +689,14 @@ def main():
     return serving.run_tests((a_run_is_stored_and_resumed, the_console_stays_open, open_sessions_end_first,
                               a_silent_client_delays_the_end, a_killed_server_is_not_resumed,
                               a_killed_server_has_its_journal,
+                              a_start_that_fails_keeps_what_a_killed_run_left,
+                              a_start_beside_a_server_that_ends_keeps_its_trace,
                               a_log_that_is_not_read_stops_nothing,
                               a_journal_of_another_run_is_refused,
                               a_journal_may_be_preferred_to_a_later_trace,
                               other_files_are_no_traces,
                               a_folder_of_an_older_version_is_judged_by_its_events,
+                              a_journal_with_the_same_last_event_is_judged_by_its_state,
                               a_journal_without_events_is_refused_by_a_later_trace,
                               a_trace_that_is_recovered_is_not_of_another_journal,
                               a_journal_of_a_start_that_failed_is_taken,

@@ -948,6 +948,39 @@ def dropped_lines_are_counted(name):
     check(f"{name}: each line or its count", found == all_lines, found, all_lines, counts())
 
 
+def a_public_client_is_served_once(name):
+    """The AARQ of the public client, and then its GET of the control state, over TCP."""
+    server = Server("--connections", "1", "--stop-with-input")
+    asked = {"000100100001001F601DA109060760857405080101BE10040E01000000065F1F0400007E1F04B0":
+             "000100010010002B6129A109060760857405080101A203020100A305A103020100BE10040E0800065F1F0400001E1904000007",
+             "000100100001000DC001C10046000060030AFF0300": "0001000100100006C401C1001601"}
+    with socket.create_connection(("127.0.0.1", server.port), PATIENCE) as client:
+        for request, answer in asked.items():
+            client.sendall(bytes.fromhex(request))
+            found = b""
+            while len(found) < len(answer) // 2 and (more := client.recv(100)):
+                found += more
+            check(f"{name}: {request[:20]}", found == bytes.fromhex(answer), found)
+    status, trace, errors = server.end()
+    check(f"{name}: the end", status == 0 and len(play_trace(trace)) == 1, status, trace, errors)
+
+
+def closed_streams_stay_closed(name):
+    """No file and no socket gets the number of a standard stream that is closed at the start."""
+    for number, status in ((1, 3), (2, 0)):
+        words = [str(SERVER), "serve", "--listen", "127.0.0.1:0", "--password", PASSWORD, "--stop-with-input", "--verbose"]
+        process = subprocess.Popen(words, stdin=subprocess.PIPE, stdout=subprocess.PIPE, stderr=subprocess.PIPE,
+                                   preexec_fn=lambda number=number: os.close(number))
+        time.sleep(1)
+        with open(f"/proc/{process.pid}/stat", encoding="ascii") as file:
+            ticks = sum(map(int, file.read().rpartition(")")[2].split()[11:13]))
+        check(f"{name}: {number}: waits", ticks < os.sysconf("SC_CLK_TCK") / 2, ticks)
+        output, errors = process.communicate(b"", timeout=PATIENCE)
+        check(f"{name}: {number}: the end", process.returncode == status, process.returncode, errors)
+        is_so = output.startswith(b"RELAYTRACE") if number == 2 else b"RELAYTRACE" not in errors and b"fault: write" in errors
+        check(f"{name}: {number}: what is written", is_so, output, errors)
+
+
 FIRST_MOMENT = 946_684_800  # the moment 0, in seconds since 1970
 DAY = 86_400
 HELD_BACK = ("console: moment {} held back: more than a day ahead of the last one or of this "
@@ -1078,7 +1111,7 @@ def main():
                       console_lines_act_beside_clients, a_console_that_is_not_read_is_a_fault, a_limit_of_connections_ends_the_server, the_end_of_input_ends_the_server,
                       an_address_in_use_is_a_fault, a_meter_goes_on_from_its_trace, a_wrong_trace_is_not_gone_on_from, wrong_passwords_are_refused,
                       the_log_reports_each_client, a_server_without_a_journal_says_so,
-                      a_log_that_is_not_read_stops_nothing, dropped_lines_are_counted,
+                      a_log_that_is_not_read_stops_nothing, dropped_lines_are_counted, closed_streams_stay_closed, a_public_client_is_served_once,
                       a_moment_far_ahead_is_held_back, a_new_meter_has_the_clock_of_the_machine,
                       a_step_of_the_clock_may_be_accepted,
                       moments_are_judged_by_the_trace_or_the_machine,

@@ -39,6 +39,12 @@ def copy_repository(to):
     return names
 
 
+def tests_of(name):
+    """The tests in the files of a crate."""
+    texts = (it.read_text() for it in (CRATES / name).rglob("*.test"))
+    return sorted(it for text in texts for it in re.findall(r"#\[test\]\s+fn (\w+)\(", text))
+
+
 def counts_of(output):
     """The passed and the failed tests of an output, or None if it has no result."""
     found = re.search(r"test result: \w+\. (\d+) passed; (\d+) failed;", output)
@@ -47,12 +53,17 @@ def counts_of(output):
 
 def main():
     passed = failed = 0
+    for it in CRATES.iterdir():
+        if it.is_dir() and not re.search(rf"(?m)^{it.name}:", (CRATES / "depends.txt").read_text()):
+            print(f"FAILED unproved: {it.name} is not in depends.txt")
+            failed += 1
     with tempfile.TemporaryDirectory(prefix="unproved-") as folder:
         for name in copy_repository(pathlib.Path(folder)):
             made = subprocess.run(["rt", "try", "--test"], cwd=f"{folder}/crates/{name}", text=True, timeout=PATIENCE,
                                   stdin=subprocess.DEVNULL, stdout=subprocess.PIPE, stderr=subprocess.STDOUT)
             counts = counts_of(made.stdout)
-            if counts is None or counts[0] + counts[1] == 0 or (made.returncode != 0) != (counts[1] > 0):
+            found = sorted(it.rpartition("::")[2] for it in re.findall(r"(?m)^test (\S+) \.\.\. ", made.stdout))
+            if counts is None or found != tests_of(name) or (made.returncode != 0) != (counts[1] > 0):
                 print(f"FAILED {name}: status {made.returncode}\n{made.stdout[-3_000:]}")
                 failed += 1
                 continue

@@ -1,8 +1,8 @@
 //! Opens the files that a program makes for itself: other users may not read them, and no symbolic
 //! link is followed.
-use std::fs::{File, Files, Metadata, OpenOptions, TryLockError};
+use std::fs::{File, Files, Metadata, OpenOptions, Permissions, TryLockError};
 use std::io::ErrorKind;
-use std::os::unix::fs::{MetadataExt, OpenOptionsExt};
+use std::os::unix::fs::{MetadataExt, OpenOptionsExt, PermissionsExt};
 use std::{fs, io};
 
 /// The permissions of a file that its owner may read and write, and nobody else.
@@ -52,8 +52,8 @@ pub fn open_own<R: Files<File = File>>(
     }
 }
 
-// Creates the file of a path with these permissions. Errors: `AlreadyExists` if the path names
-// anything, a symbolic link too; any error of the system.
+// Creates the file of a path with these permissions, whatever the mask of the process. Errors:
+// `AlreadyExists` if the path names anything, a symbolic link too; any error of the system.
 fn create<R: Files<File = File>>(
     files: &R,
     path: &str,
@@ -62,7 +62,10 @@ fn create<R: Files<File = File>>(
 ) -> io::Result<File> {
     let mut options = options_for(access);
     options.create_new(true).mode(mode);
-    options.open(files, path)
+    let file = options.open(files, path)?;
+    // (the mask of the process may have taken some away)
+    file.set_permissions(Permissions::from_mode(mode))?;
+    Ok(file)
 }
 
 /// Opens the file of a path as [`open_own`] does, and creates it with these permissions if it is

@@ -29,8 +29,8 @@ pub fn whole_len(bytes: &[u8]) -> usize
 }
 
 /// Returns the length of the whole lines, if the line after them is damaged and whole lines follow
-/// it. An interrupted write damages only the last line, so what follows was on the disk once.
-/// Returns `None` if at most one line ends after the whole lines.
+/// it. An interrupted write of one line leaves no such bytes. Returns `None` if at most one line
+/// ends after the whole lines.
 pub fn damaged_at(bytes: &[u8]) -> Option<usize>
     ensures place { IfSome result (λ at. (at ≡ length (text_of (lines_in bytes.now)))
         × HasLinesAfterDamage bytes.now) }

@@ -1,13 +1,19 @@
 //! A copy of a ledger that may only be read: SQLite opens a file for writing, too.
 use std::fs::{DirBuilder, OpenOptions, Permissions};
 use std::io::ErrorKind;
-use std::os::unix::fs::{DirBuilderExt, PermissionsExt};
+use std::os::unix::fs::{DirBuilderExt, MetadataExt, PermissionsExt};
 use std::rt::HostRuntime;
 use std::time::Clock;
 use std::{env, fs, io};
 
-// The endings of the files of a ledger.
-const ENDINGS: [&str; 4] = ["", "-wal", ".answers", ".answers-wal"];
+// The endings of a ledger and of its log.
+const LEDGER: [&str; 2] = ["", "-wal"];
+
+// The endings of the file of answers next to a ledger, and of its log.
+const ANSWERS: [&str; 2] = [".answers", ".answers-wal"];
+
+// How often a ledger is copied that another process writes meanwhile.
+const COPIES: u32 = 10;
 
 // The permissions of the folder of a copy: its owner alone may enter it.
 const PRIVATE: u32 = 0o700;
@@ -61,18 +67,53 @@ fn make_folder(rt: &HostRuntime) -> io::Result<String> {
     Ok(folder)
 }
 
-// Copies the files of the ledger at a path into a new folder.
+// The length of a file, and the seconds and nanoseconds of its last change.
+type FileState = (u64, i64, i64);
+
+// Returns the state of a file, if there is one.
+fn state_of(rt: &HostRuntime, path: &str, ending: &str) -> io::Result<Option<FileState>> {
+    let path = format!(in rt.alloc(); "{path}{ending}")?;
+    match fs::metadata(rt, path.as_str()) {
+        Ok(file) => Ok(Some((file.len(), file.mtime(), file.mtime_nsec()))),
+        Err(error) if error.kind() == ErrorKind::NotFound => Ok(None),
+        Err(error) => Err(error),
+    }
+}
+
+// Copies the files of a path with these endings to another path.
+fn copy_files(rt: &HostRuntime, path: &str, to: &str, endings: &[&str]) -> io::Result<()> {
+    'endings: for ending in endings {
+        let from = format!(in rt.alloc(); "{path}{ending}")?;
+        let to = format!(in rt.alloc(); "{to}{ending}")?;
+        copy_if_there(rt, from.as_str(), to.as_str())?;
+    }
+    Ok(())
+}
+
+// Copies a database and its log, of one moment: again, if one of them changed meanwhile. Errors:
+// `ResourceBusy` if they changed each time.
+fn copy_database(rt: &HostRuntime, path: &str, to: &str) -> io::Result<()> {
+    'copies: for _ in 0..COPIES {
+        let before = (state_of(rt, path, "")?, state_of(rt, path, "-wal")?);
+        copy_files(rt, path, to, &LEDGER)?;
+        if before == (state_of(rt, path, "")?, state_of(rt, path, "-wal")?) {
+            return Ok(());
+        }
+    }
+    Err(io::Error::from(ErrorKind::ResourceBusy))
+}
+
+// Copies the files of the ledger at a path into a new folder. If the path is a symbolic link, the
+// log is the one next to the file that it leads to.
 pub(crate) fn copy_ledger(rt: &HostRuntime, path: &str) -> io::Result<PrivateCopy> {
+    let file = fs::canonicalize(rt, path)?;
     let folder = make_folder(rt)?;
     let copy = PrivateCopy {
         rt: *rt,
         path: format!(in rt.alloc(); "{folder}/ledger")?,
         folder,
     };
-    'endings: for ending in ENDINGS {
-        let from = format!(in rt.alloc(); "{path}{ending}")?;
-        let to = format!(in rt.alloc(); "{}{ending}", copy.path)?;
-        copy_if_there(rt, from.as_str(), to.as_str())?;
-    }
+    copy_database(rt, file.as_str(), copy.path.as_str())?;
+    copy_files(rt, path, copy.path.as_str(), &ANSWERS)?;
     Ok(copy)
 }

@@ -19,14 +19,14 @@ pub enum StartFault {
     #[error("expected at most 33554432 bytes")]
     TooLong,
     /// The text is a trace with a number of events, or of version 1, to which none can be appended.
-    #[error("expected a journal, a trace of version 2 with `events -`; found counted events or version 1")]
+    #[error("expected a trace of version 2 with `events -`, found counted events or version 1")]
     Counted,
     /// The device name is that of another meter.
     #[error("the journal of a meter with another device name")]
     OtherMeter,
     /// The line after this number of bytes is damaged, and whole lines follow it. An interrupted
-    /// write damages the last line only.
-    #[error("damaged after byte {0}, and whole lines follow: restore a copy, or keep this one and cut it there")]
+    /// write of one line leaves no such bytes.
+    #[error("damaged after byte {0}, and whole lines follow: keep a copy, and cut it there")]
     Damaged(usize),
     /// A call on the file or its folder failed.
     #[error("reading, writing or syncing failed")]

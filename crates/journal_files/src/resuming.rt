@@ -77,7 +77,7 @@ pub fn resume_journal<F: DurableFile>(
     ensures failed { IsErrOf result StartFault.File → F.has_failed file.new }
     ensures refused { IfErr result (λ fault. IsRefusal fault
         → F.seen file.new ≡ F.seen file.old) }
-    // Nothing is cut but the last line: no whole line follows what is cut.
+    // At most one line ends in what is cut.
     ensures cut { OnOk result (F.acts_as_file → ¬ HasLinesAfterDamage (F.seen file.old)) }
     ensures seen { OnOk result (F.acts_as_file
         → F.seen file.new ≡ text_of (lines_in (F.seen file.old))) }

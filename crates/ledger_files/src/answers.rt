@@ -7,7 +7,7 @@ ghost use Rattle.ledger_files.specs.Reading.{AreAnswersFrom, AreAnswersRead};
 
 use crate::disks::{append_on_disk, read_answers_on_disk};
 use crate::make_private;
-use crate::reading::has_file;
+use crate::reading::has_log;
 use ledger_reports::StateAnswer;
 use sqlite::{Alter, Connection, Error, FileFrom, FileStore, Start, Unknown};
 use sqlite_disk::Disk;
@@ -129,7 +129,8 @@ pub fn append_answers<S: Start>(
 // Fails with `File` if that can't be said.
 fn has_answers(rt: &HostRuntime, path: &str) -> Result<bool, LedgerOpenFault> {
     match fs::metadata(rt, path) {
-        Ok(metadata) => Ok(metadata.len() != 0 || has_file(rt, path, "-wal")),
+        Ok(metadata) if metadata.len() != 0 => Ok(true),
+        Ok(_) => has_log(rt, path).map_err(|_| LedgerOpenFault::File),
         Err(error) if error.kind() == ErrorKind::NotFound => Ok(false),
         Err(_) => Err(LedgerOpenFault::File),
     }

@@ -2,10 +2,11 @@
 use crate::disks::close_on_disk;
 use crate::end::LedgerEnd;
 use crate::open_ledger_from;
-use crate::reading::has_file;
+use crate::reading::has_log;
 use client_core::Job;
 use sqlite::Unknown;
 use sqlite_ledger::LedgerOpenFault;
+use std::fs;
 use std::fs::File;
 use std::io::{ErrorKind, Read};
 use std::rt::HostRuntime;
@@ -27,27 +28,28 @@ pub enum LedgerPresence {
     Whole,
 }
 
-/// Returns what is at the path of a ledger. Nothing is written.
+/// Returns what is at the path of a ledger. Nothing is written. If the path is a symbolic link, its
+/// log is the one next to the file that it leads to, as for SQLite.
 ///
-/// Errors: `NotALedger` for a file without a log that is not of SQLite; `File` if it cannot be
-/// read.
+/// Errors: `NotALedger` for a file without a log that is not of SQLite; `File` for what is no
+/// regular file, or if the file or its folder cannot be read.
 pub fn find_ledger(rt: &HostRuntime, path: &str) -> Result<LedgerPresence, LedgerOpenFault> {
-    let mut file = match File::open(rt, path) {
-        Ok(file) => file,
-        Err(error) if error.kind() == ErrorKind::NotFound => return Ok(LedgerPresence::Missing),
-        Err(_) => return Err(LedgerOpenFault::File),
-    };
-    let metadata = match file.metadata() {
+    // (a named pipe is not opened: that would wait)
+    let metadata = match fs::metadata(rt, path) {
         Ok(metadata) if metadata.is_file() => metadata,
+        Err(error) if error.kind() == ErrorKind::NotFound => return Ok(LedgerPresence::Missing),
         _ => return Err(LedgerOpenFault::File),
     };
     // (with its log, a file may also be one that a killed run has made in part)
-    if has_file(rt, path, "-wal") {
-        return Ok(LedgerPresence::Whole);
+    match has_log(rt, path) {
+        Ok(true) => return Ok(LedgerPresence::Whole),
+        Ok(false) if metadata.len() == 0 => return Ok(LedgerPresence::Empty),
+        Ok(false) => {}
+        Err(_) => return Err(LedgerOpenFault::File),
     }
-    if metadata.len() == 0 {
-        return Ok(LedgerPresence::Empty);
-    }
+    let Ok(mut file) = File::open(rt, path) else {
+        return Err(LedgerOpenFault::File);
+    };
     let mut first = [0; 16];
     match file.read_exact(&mut first) {
         Ok(()) if first.as_slice() == FIRST_BYTES.as_slice() => {}

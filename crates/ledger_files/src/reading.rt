@@ -9,27 +9,31 @@ use ledger_reports::LedgerLine;
 use sqlite::{Alter, Connection, FileFrom, Start, Unknown};
 use sqlite_disk::Disk;
 use sqlite_ledger::{LedgerOpenFault, read_lines};
-use std::fs::File;
+use std::io::ErrorKind;
 use std::rt::HostRuntime;
+use std::{fs, io};
 
-// Returns whether there is a file at a path with this ending.
-pub(crate) fn has_file(rt: &HostRuntime, path: &str, ending: &str) -> bool {
-    match format!(in rt.alloc(); "{path}{ending}") {
-        Ok(path) => File::open(rt, path.as_str()).is_ok(),
-        Err(_) => false,
+// Returns whether the file of a path has a log: a file with the ending `-wal` next to it, or if the
+// path is a symbolic link, next to the file that it leads to.
+pub(crate) fn has_log(rt: &HostRuntime, path: &str) -> io::Result<bool> {
+    let file = fs::canonicalize(rt, path)?;
+    let log = format!(in rt.alloc(); "{}-wal", file.as_str())?;
+    match fs::metadata(rt, log.as_str()) {
+        Ok(_) => Ok(true),
+        Err(error) if error.kind() == ErrorKind::NotFound => Ok(false),
+        Err(error) => Err(error),
     }
 }
 
-// Fails with `File` if there is no file at a path that can be read, and with `NotALedger` if it is
-// empty and has no log: an open would make a ledger without jobs there.
+// Fails with `File` if there is no regular file at a path, and with `NotALedger` if it is empty and
+// has no log: an open would make a ledger without jobs there.
 fn check_file(rt: &HostRuntime, path: &str) -> Result<(), LedgerOpenFault> {
-    let Ok(file) = File::open(rt, path) else {
-        return Err(LedgerOpenFault::File);
+    let metadata = match fs::metadata(rt, path) {
+        Ok(metadata) if metadata.is_file() => metadata,
+        _ => return Err(LedgerOpenFault::File),
     };
-    match file.metadata() {
-        Ok(metadata) if metadata.len() == 0 && !has_file(rt, path, "-wal") => {
-            Err(LedgerOpenFault::NotALedger)
-        }
+    match has_log(rt, path) {
+        Ok(false) if metadata.len() == 0 => Err(LedgerOpenFault::NotALedger),
         Ok(_) => Ok(()),
         Err(_) => Err(LedgerOpenFault::File),
     }

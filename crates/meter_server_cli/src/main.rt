@@ -13,6 +13,7 @@ mod listening;
 mod messages;
 mod serving;
 mod starting;
+mod streams;
 
 use counted_io::Counted;
 use program::{Fault, exit_code};
@@ -23,6 +24,7 @@ use session_log::start_log;
 use std::process::ExitCode;
 use std::sync::Wait;
 use std::thread::Threads;
+use streams::fill_streams;
 
 // The next step after the command line is read.
 #[derive(Drop)]
@@ -71,13 +73,14 @@ fn begin(rt: &HostRuntime) -> Result<ServerCommand, Fault> {
     }
 }
 
-// Serves clients, with a log that never makes the meter wait. Returns the exit status; a fault is
-// the last line of the log.
+// Serves clients, with a log that never makes the meter wait, and in which a fault has its line.
+// Returns the exit status.
 fn serve<R: Threads + Wait + Copy + Drop + Send + 'static>(
     rt: &HostRuntime,
     threads: &R,
     options: &ServeOptions,
 ) -> ExitCode {
+    let streams = fill_streams(rt, rt.alloc());
     let Ok(log) = start_log(rt, threads, rt.alloc(), rt.stderr()) else {
         return exit_code(rt, Err(Fault::Memory));
     };
@@ -87,6 +90,7 @@ fn serve<R: Threads + Wait + Copy + Drop + Send + 'static>(
     };
     let code = exit_code(&log, done.map(|()| 0));
     log.end();
+    drop(streams);
     code
 }
 

@@ -204,9 +204,13 @@ fn open_file<R: AllocGlobal + Files<File = File> + Drop, E: Eprint>(
 {
     match open_own(rt, path, FileAccess::Write) {
         Ok(file) => {
-            let Ok(mut file) = StoredFile::try_lock(file, MAX_BYTES) else {
-                drop(recorder);
-                return Err(StartFault::File);
+            let mut file = match StoredFile::try_lock(file, MAX_BYTES) {
+                Ok(file) => file,
+                Err(fault) => {
+                    let _ = eprintln!(errors; "{path}: {fault}");
+                    drop(recorder);
+                    return Err(StartFault::File);
+                }
             };
             let end = end_of(rt.alloc(), &mut file);
             place.set_file(file);

@@ -1,11 +1,11 @@
 //! The file of a relay: it is opened again if its path names another file.
 use crate::paths::with_suffix;
-use durable_lines::{FileAccess, is_same_file, open_or_create};
+use durable_lines::{FileAccess, is_same_file, open_or_create, open_own};
 use libc::types::pollfd;
 use session_log::{Log, LogTime};
 use std::alloc::Global;
 use std::fs::{File, Files, Metadata};
-use std::io::Write;
+use std::io::{ErrorKind, Write};
 use std::os::fd::AsRawFd;
 use std::os::unix::fs::FileTypeExt;
 use std::time::Clock;
@@ -13,8 +13,8 @@ use std::{fs, io};
 
 /// The file that is given the supply output. Before each change it is compared with the file that
 /// its path names. If that is another one, or none, it is opened again, and made if it is missing,
-/// with a line in the log. For a named pipe the log also reports that the change before has not
-/// been read.
+/// with a line in the log. A named pipe that was removed is not made: the write fails. For a named
+/// pipe the log also reports that the change before has not been read.
 #[derive(Drop)]
 pub struct RelayFile<R> {
     rt: R,
@@ -71,7 +71,19 @@ impl<R: Clock + Files<File = File> + Copy> RelayFile<R> {
     fn is_named(&self) -> io::Result<bool> {
         match fs::symlink_metadata(&self.rt, self.path.as_str()) {
             Ok(named) => Ok(is_same_file(&named, &self.file.metadata()?)),
-            Err(_) => Ok(false),
+            Err(error) if error.kind() == ErrorKind::NotFound => Ok(false),
+            Err(error) => Err(error),
+        }
+    }
+
+    // Opens the file of the path, which is made if it is missing. A pipe is not: a regular file
+    // would have its name, and its reader would wait for a pipe that nobody writes to.
+    fn open_again(&self) -> io::Result<File> {
+        let path = self.path.as_str();
+        if self.is_pipe {
+            open_own(&self.rt, path, FileAccess::Append)
+        } else {
+            open_or_create(&self.rt, path, FileAccess::Append, self.mode)
         }
     }
 
@@ -85,7 +97,7 @@ impl<R: Clock + Files<File = File> + Copy> RelayFile<R> {
         let _ = eprintln!(self.log;
             "{now} {path}: the relay's file was replaced or removed, and is opened again"
         );
-        self.file = open_or_create(&self.rt, path, FileAccess::Append, self.mode)?;
+        self.file = self.open_again()?;
         self.is_pipe = self.file.metadata()?.file_type().is_fifo();
         self.is_unread = false;
         Ok(())

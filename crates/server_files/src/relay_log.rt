@@ -11,6 +11,7 @@ use relay_core::RelayCore;
 use session_log::{Log, LogTime};
 use std::alloc::{AllocError, AllocGlobal};
 use std::fs::{File, Files, Metadata};
+use std::io::ErrorKind;
 use std::time::Clock;
 use std::{fs, io};
 
@@ -150,7 +151,10 @@ fn open_file<R: Clock + AllocGlobal + Files<File = File> + Copy + Drop>(
 fn report_not_opened(log: &Log, path: &str, error: &io::Error) -> Fault
     ensures { is_of_opening result ≡ true }
 {
-    let _ = eprintln!(log; "{path}: the relay can't be opened for reading and writing: {error}");
+    let _ = match error.kind() {
+        ErrorKind::InvalidInput => eprintln!(log; "{path}: a symbolic link is not followed"),
+        _ => eprintln!(log; "{path}: the relay can't be opened for reading and writing: {error}"),
+    };
     Fault::Write
 }
 

@@ -86,6 +86,18 @@ impl Eprint for Log {
     }
 }
 
+// Writes bytes. If that fails, the lines that end in them count as dropped.
+fn write_part<W: Write>(output: &mut W, part: &[u8], queue: &LogQueue) {
+    if part.is_empty() || output.write_all(part).is_ok() {
+        return;
+    }
+    for byte in part {
+        if *byte == b'\n' {
+            let _ = queue.dropped.fetch_add(1, Ordering::SeqCst);
+        }
+    }
+}
+
 // Writes bytes of a queue. After the last line end in them it reports how many lines were dropped,
 // so that a report stands on a line of its own.
 fn write_piece<W: Write>(output: &mut W, piece: &[u8], queue: &LogQueue) {
@@ -93,13 +105,11 @@ fn write_piece<W: Write>(output: &mut W, piece: &[u8], queue: &LogQueue) {
         Some(end) => piece.split_at(end + 1),
         None => piece.split_at(0),
     };
+    write_part(output, lines, queue);
     if !lines.is_empty() {
-        let _ = output.write_all(lines);
         report_dropped(output, queue);
     }
-    if !rest.is_empty() {
-        let _ = output.write_all(rest);
-    }
+    write_part(output, rest, queue);
 }
 
 // Writes what comes from a queue on standard error until its end. Reports how many lines were
@@ -117,14 +127,18 @@ fn write_lines<W: Write>(output: &mut W, lines: &mut UnixStream, queue: &LogQueu
     report_dropped(output, queue);
 }
 
-// Reports how many lines were dropped, if any were.
+// Reports how many lines were dropped, if any were. They are reported later if that fails.
 fn report_dropped<W: Write>(output: &mut W, queue: &LogQueue) {
     let count = queue.dropped.swap(0, Ordering::SeqCst);
-    if count > 0 {
-        let _ = writeln!(
-            output,
-            "log: {count} lines were dropped: the log is not read in time"
-        );
+    if count == 0 {
+        return;
+    }
+    let report = writeln!(
+        output,
+        "log: {count} lines were dropped: the log is not read in time"
+    );
+    if report.is_err() {
+        let _ = queue.dropped.fetch_add(count, Ordering::SeqCst);
     }
 }
 

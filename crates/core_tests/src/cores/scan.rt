@@ -61,8 +61,7 @@ const RAISES_AND_FALLS: Firing = Firing {
 };
 
 /// Four seconds over 5000 W raise the threshold to 9000 W; 25 seconds under it count. The upper
-/// side fires at the 37th of the 256 samples: 219 are under the new threshold, 30 more are too few,
-/// and one more makes 250.
+/// side fires at the 37th of the 256 samples: 219 are under the new threshold; 31 more make 250.
 const RAISES: Firing = Firing {
     settings: &[
         (SCRIPTS, RAISE_IMPORT),
@@ -83,12 +82,7 @@ const RAISES: Firing = Firing {
             under: 0,
         },
         Samples {
-            stretches: &[(30, 6000)],
-            over: 0,
-            under: 0,
-        },
-        Samples {
-            stretches: &[(1, 6000)],
+            stretches: &[(31, 6000)],
             over: 0,
             under: 1,
         },

@@ -14,8 +14,8 @@ use std::sync::Wait;
 use std::test::Fail;
 use turn_lock::{CallFault, Port, Shared, Turned};
 
-/// The public client's GET of the device name.
-const READ_NAME: &[u8] = b"get 16 1 00002A0000FF 2 0";
+/// The management client's GET of the device name.
+const READ_NAME: &[u8] = b"get 1 1 00002A0000FF 2 0";
 
 /// Returns whether a reply is the device name.
 fn is_name(reply: &Reply) -> bool {
