@@ -272,7 +272,7 @@ def a_wrong_journal_is_refused(name, folder):
         check(f"{name}: {what}, unchanged", journal.path.read_bytes() == held)
     for what, held, why in (
             ("an empty file", b"", "line 1 "),
-            ("a trace of counted events", trace_of_a_run(), "expected a journal, ")):
+            ("a trace of counted events", trace_of_a_run(), "expected a trace of version 2 with `events -`, ")):
         journal.path.write_bytes(held)
         made = start_on(journal.path)
         has_reason = made[2].startswith(f"{journal.path}: {why}")
@@ -403,7 +403,7 @@ def files_are_made_for_their_owner(name, folder):
 NO_LINKS = {
     "journal": "a symbolic link is not followed\n{}: reading, writing or syncing failed\n",
     "journal.lock": "the lock file can't be opened and locked\n",
-    "relay": "the relay can't be opened for reading and writing: .*\n",
+    "relay": "(a symbolic link is not followed|the relay can't be opened for reading and writing: .*)\n",
 }
 
 

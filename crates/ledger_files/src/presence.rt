@@ -41,11 +41,14 @@ pub fn find_ledger(rt: &HostRuntime, path: &str) -> Result<LedgerPresence, Ledge
         _ => return Err(LedgerOpenFault::File),
     };
     // (with its log, a file may also be one that a killed run has made in part)
-    match has_log(rt, path) {
-        Ok(true) => return Ok(LedgerPresence::Whole),
-        Ok(false) if metadata.len() == 0 => return Ok(LedgerPresence::Empty),
-        Ok(false) => {}
-        Err(_) => return Err(LedgerOpenFault::File),
+    let Ok(has_log) = has_log(rt, path) else {
+        return Err(LedgerOpenFault::File);
+    };
+    if has_log {
+        return Ok(LedgerPresence::Whole);
+    }
+    if metadata.len() == 0 {
+        return Ok(LedgerPresence::Empty);
     }
     let Ok(mut file) = File::open(rt, path) else {
         return Err(LedgerOpenFault::File);

@@ -32,11 +32,13 @@ fn check_file(rt: &HostRuntime, path: &str) -> Result<(), LedgerOpenFault> {
         Ok(metadata) if metadata.is_file() => metadata,
         _ => return Err(LedgerOpenFault::File),
     };
-    match has_log(rt, path) {
-        Ok(false) if metadata.len() == 0 => Err(LedgerOpenFault::NotALedger),
-        Ok(_) => Ok(()),
-        Err(_) => Err(LedgerOpenFault::File),
+    let Ok(has_log) = has_log(rt, path) else {
+        return Err(LedgerOpenFault::File);
+    };
+    if metadata.len() == 0 && !has_log {
+        return Err(LedgerOpenFault::NotALedger);
     }
+    Ok(())
 }
 
 // Reads the lines of a ledger, and drops its connection. It is generic, so that no proof reads how
