@@ -7,7 +7,7 @@ use std::os::fd::AsRawFd;
 // The numbers of the standard streams.
 const STREAMS: i32 = 3;
 
-// Opens a file in place of each standard stream that is closed, so that no other file and no socket
+// Opens a file for each standard stream that is closed, so that no other file and no socket
 // gets its number: what is read from it has ended, and a write to it fails. Returns the files, to
 // be kept while the program runs.
 pub(crate) fn fill_streams<R: Files<File = File>>(rt: &R, alloc: Global) -> io::Result<Vec<File>> {
