@@ -25,7 +25,7 @@ import time
 sys.dont_write_bytecode = True  # importing the modules of tests/ leaves no files
 
 import serving
-from programs import HEAD_END
+from programs import HEAD_END, IS_UNPROVED
 from one_node_slurm import LONG_PATIENCE, Slurm, missing_commands
 from scripted_meters import AARQ, CROWD, HOLDING, RELEASE, REQUESTS, SCRIPTS, Crowd, ScriptedMeter, Unheard, answer_to, answers_slowly, \
     answers_the_release, does_it, loopback_address
@@ -186,9 +186,10 @@ def report_of(rows):
 
 
 def without_warnings(errors):
-    """Standard error without its warnings: the jobs of these campaigns share names and
-    addresses."""
-    return "".join(line + "\n" for line in errors.splitlines() if ": warning: " not in line)
+    """Standard error without its warnings, since the jobs of these campaigns share names and
+    addresses, and without the notice of programs that are not proved."""
+    words = [": warning: "] + ["head_end: NOT PROVED: "] * IS_UNPROVED
+    return "".join(line + "\n" for line in errors.splitlines() if not any(it in line for it in words))
 
 
 def run_head_end(jobs, *words):
