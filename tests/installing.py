@@ -456,7 +456,7 @@ def linked_scripts(folder):
 # An rt that prints its words.
 RT = '#!/bin/sh\nfor it; do echo "$it"; done\n'
 # A bin/build that can't build without a proof; and one that makes an executable, which prints its
-# words, and says so.
+# words, and prints `built` itself.
 NO_BUILD = "#!/bin/sh\nexit 1\n"
 BUILD = """#!/bin/sh
 [ "$1" = --unproved ] || exit 1

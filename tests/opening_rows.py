@@ -191,7 +191,7 @@ def worked_rows():
         found = play_text("".join(f"{it}\n" for it in [*lines[:number - 1], line, *lines[number:]]))
         yield f"the worked trace with {line!r}", found == wanted, found
     for number in range(1, 31):
-        # (without one of its events, the text ends where the last of them is due)
+        # Without one of its events, the text ends at the line of the last one.
         wanted = number if number < 22 else 30
         found = play_text("".join(f"{it}\n" for it in [*lines[:number - 1], *lines[number:]]))
         yield f"the worked trace without line {number}", found == wanted, found
