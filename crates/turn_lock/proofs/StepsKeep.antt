@@ -9,17 +9,18 @@ use Rattle.std.proofs.Math.Nat.{mod-eq_of_lt}
 use Rattle.atomic_table.specs.Table.{State, Me, step, Act, keeps, takes, gives, Valid, carried_after, homes_after, stepped, Allows, Splits, Joins, opening, Final, Seen}
 use Rattle.atomic_table.proofs.Lists.{at_set, set_else, exchanged}
 use Rattle.turn_lock.specs.declared.turned.Entry.{Entry}
+use Rattle.turn_lock.specs.declared.known.Joined.{Joined}
 use Rattle.turn_lock.specs.declared.known.Known.{Known}
 use Rattle.turn_lock.specs.declared.known.View.{View}
 use Rattle.turn_lock.specs.declared.known.Stage.{Stage}
 use Rattle.turn_lock.specs.declared.known.Stage.TheVariants.{New, Young, Idle, Turn, SawServing, Met}
 use Rattle.turn_lock.specs.declared.board.Slot.{Slot}
 use Rattle.turn_lock.specs.History.{StartsWith, calls_by}
-use Rattle.turn_lock.specs.Rule.{max_turns, LastCall, first_view, full_slot, IsOwn, Moment, HoldsSlot, HasMet, IsHome, FitsStage, IsPort, Fits, Facts, IsLockState}
+use Rattle.turn_lock.specs.Rule.{max_turns, LastCall, first_view, full_slot, IsOwn, IsUnused, IsTaken, Moment, HoldsSlot, HasMet, OwnsNumber, IsHome, FitsStage, IsPort, Fits, Facts, IsLockState}
 use Rattle.turn_lock.specs.Calls.{Watches}
 use Rattle.turn_lock.specs.Seats.{CarriedSlots, new_entries, with_stage, spent_view, parent_view, child_view, note_view, view_with_served, view_after_turn, view_with, joined_with, seat_with, seat_state}
 use Rattle.turn_lock.specs.Plays.{play, Settles, Draws, SeesServing, MovesTo, Looks, AddsCall, Ends, KnowsBoth, Merges, TakesValue, Closes}
-use Rattle.turn_lock.proofs.Lists.{starts_refl, starts_more, starts_length, calls_by-own, calls_by-other, calls_none, has_front, has_front-append, future-not-self, future_sooner, front_is_future, future-not-front, apart-not-front, among-append}
+use Rattle.turn_lock.proofs.Lists.{starts_refl, starts_more, starts_length, calls_by-own, calls_by-other, calls_none, has_front, has_front-append, future-not-self, future_sooner, front_is_future, future-not-front, apart-not-front, among-append, below-append}
 
 -- the function f, with the value v at k
 abbrev put : (ℕ → ℕ) → ℕ → ℕ → ℕ → ℕ
@@ -227,7 +228,7 @@ module _ {T E R O : Type 0} (origin : T → O) (stands : T → List (Entry E R) 
     port = λ e. let p = f.port e in record {
       origin_is = p.origin_is;
       own = λ q o. ((p.own q o).0, refl);
-      future = p.future;
+      unused = p.unused;
       apart = p.apart;
     };
   }
@@ -279,6 +280,7 @@ module _ {T E R O : Type 0} (origin : T → O) (stands : T → List (Entry E R) 
     carried = refl;
     results = stood;
     origin_is = (f.port port).origin_is ∙ ap (λ (o : O). Some o) (sym same);
+    unused = λ q o. ((f.port port).unused q o).1;
   }
 
   -- a load that takes no slot
@@ -341,7 +343,7 @@ module _ {T E R O : Type 0} (origin : T → O) (stands : T → List (Entry E R) 
     port = λ e. let p = f.port e in record {
       origin_is = p.origin_is;
       own = p.own;
-      future = p.future;
+      unused = p.unused;
       apart = p.apart;
     };
   }
@@ -367,6 +369,17 @@ module _ {T E R O : Type 0} (origin : T → O) (stands : T → List (Entry E R) 
         },
       ))
 
+  -- a number that was taken in, after more turns were drawn
+  owns_later : (m m' : Mo) (j : ℕ) (k : Known E R O) {calls : List (Entry E R)} (q : List ℕ)
+      → m'.history ≡ m.history → m'.holder ≡ m.holder → OwnsNumber m j k calls q
+      → OwnsNumber m' j k calls q
+  owns_later m m' j k q history holder a = record {
+    holder_is = ap (λ f. f q) holder ∙ a.holder_is;
+    calls_are = ap (calls_by q) history ∙ a.calls_are;
+    not_own = a.not_own;
+    not_future = a.not_future;
+  }
+
   -- a seat that was taken in, after more turns were drawn
   met_later : (m m' : Mo) (j : ℕ) (k : Known E R O) (b : Bool) (u : Known E R O) → m'.start
       ≡ m.start → m'.history ≡ m.history → m'.holder ≡ m.holder → m.ticket ≤ m'.ticket
@@ -377,14 +390,8 @@ module _ {T E R O : Type 0} (origin : T → O) (stands : T → List (Entry E R) 
         seen = subst (λ l. StartsWith l u.seen) (sym history) h.seen;
         origin_is = λ o e. h.origin_is o e ∙ sym start;
         drawn = omega arith;
-        numbers = λ yes q one. let a = h.numbers yes q one in record {
-          holder_is = ap (λ f. f q) holder
-              ∙ a.holder_is;
-          calls = ap (calls_by q) history ∙ a.calls;
-          not_own = a.not_own;
-          not_future =
-              a.not_future;
-        };
+        numbers = λ yes q one. owns_later m m' j k q history holder (h.numbers yes q one);
+        unused = λ yes q one. owns_later m m' j k q history holder (h.unused yes q one);
       }
 
   at_home : (m : Mo) → IsHome origin stands m ⊎ (m.serving < m.ticket) → m.ticket ≡ m.serving
@@ -524,6 +531,18 @@ module _ {T E R O : Type 0} (origin : T → O) (stands : T → List (Entry E R) 
     home = some (full_slot x l);
   }
 
+  -- a number that was taken in, after the turn of another seat
+  owns_ended : (m : Mo) (i j : ℕ) (p : List ℕ) (x : T) (l : LastCall E R) (k : Known E R O)
+      {calls : List (Entry E R)} (q : List ℕ) → j ≢ i → m.holder p ≡ i
+      → OwnsNumber m j k calls q → OwnsNumber (after_end m p x l) j k calls q
+  owns_ended m i j p x l k q other holds a = record {
+    holder_is = a.holder_is;
+    calls_are = entries-other q p m.history l
+        (λ e. other (sym a.holder_is ∙ (ap m.holder e ∙ holds))) ∙ a.calls_are;
+    not_own = a.not_own;
+    not_future = a.not_future;
+  }
+
   end_staged : (m : Mo) (i n j : ℕ) (p : List ℕ) (x : T) (l : LastCall E R) (k : Known E R O)
       → j ≢ i → m.owner n ≡ i → n ≡ m.serving → m.holder p ≡ i → (m.lone ≡ true → ⊥)
       → IsHome origin stands (after_end m p x l) → (st : Stage E R O) → Stand m j k st
@@ -540,13 +559,8 @@ module _ {T E R O : Type 0} (origin : T → O) (stands : T → List (Entry E R) 
     seen = starts_more m.history u.seen (new_entries p l) h.seen;
     origin_is = h.origin_is;
     drawn = h.drawn;
-    numbers = λ yes q one. let a = h.numbers yes q one in record {
-      holder_is = a.holder_is;
-      calls = entries-other q p m.history l (λ e. other (sym a.holder_is ∙ (ap m.holder e ∙ holds)))
-          ∙ a.calls;
-      not_own = a.not_own;
-      not_future = a.not_future;
-    };
+    numbers = λ yes q one. owns_ended m i j p x l k q other holds (h.numbers yes q one);
+    unused = λ yes q one. owns_ended m i j p x l k q other holds (h.unused yes q one);
   }
 
   end_others : (m : Mo) (i n j : ℕ) (p : List ℕ) (x : T) (l : LastCall E R) (d : V) → j ≢ i
@@ -568,7 +582,7 @@ module _ {T E R O : Type 0} (origin : T → O) (stands : T → List (Entry E R) 
             entries-other q p m.history l (λ same. other (sym a.0
                 ∙ (ap m.holder same ∙ holds))) ∙ a.1,
           );
-          future = λ q o. let a = t.future q o in (
+          unused = λ q o. let a = t.unused q o in (
             a.0,
             entries-other q p m.history l (λ same. other (sym a.0
                 ∙ (ap m.holder same ∙ holds))) ∙ a.1,
@@ -595,9 +609,10 @@ module _ {T E R O : Type 0} (origin : T → O) (stands : T → List (Entry E R) 
         port = λ e. let t = f.port e in record {
           origin_is = t.origin_is;
           own = λ q o. ((t.own q o).0, ap (calls_by q) same);
-          future = λ q o. let a = t.future q o in (
+          unused = λ q o. let a = t.unused q o in (
             a.0,
-            entries-other q p m.history l (future-not-self p v.known.splits q o) ∙ a.1,
+            entries-other q p m.history l
+                (⊎_elim (future-not-self p v.known.splits q) (λ b. (t.apart q (inr b)).0) o) ∙ a.1,
           );
           apart = t.apart;
         };
@@ -646,7 +661,7 @@ module _ {T E R O : Type 0} (origin : T → O) (stands : T → List (Entry E R) 
               legal_history = subst (legal m.start) (sym whole) lawful;
             };
             own_calls = entries-own p v.known.seen l;
-            joined_calls = λ q a. entries-other q p v.known.seen l (mine.apart q a).0;
+            joined_calls = λ q a. entries-other q p v.known.seen l (mine.apart q (inl a)).0;
             within = λ turn at. let same : n ≡ turn = ap (held_of n) (sym is
                 ∙ at) in let long : length (v.known.seen ++ new_entries p l)
                 ≡ length (m.history ++ new_entries p l) =
@@ -722,8 +737,8 @@ module _ {T E R O : Type 0} (origin : T → O) (stands : T → List (Entry E R) 
       port = λ _. record {
         origin_is = refl;
         own = λ q _. (refl, refl);
-        future = λ q _. (refl, refl);
-        apart = λ q a. absurd a;
+        unused = λ q _. (refl, refl);
+        apart = λ q a. ⊎_elim (λ n. absurd n) (λ n. absurd n) a;
       };
     }
       where
@@ -847,13 +862,17 @@ module _ {T E R O : Type 0} (origin : T → O) (stands : T → List (Entry E R) 
   abbrev other_view : Bool → Known E R O → V
   other_view b u = record { known = u; is_port = b; stage = Idle }
 
+  -- a port, once it was joined in
+  abbrev as_joined : Known E R O → Joined
+  as_joined u = record { number = u.number; splits = u.splits }
+
   merge_port : (m : Mo) (i : ℕ) (k : Known E R O) (b : Bool) (u : Known E R O)
       → Stand m i k (Met b u) → IsPort m.start m.holder i m.history k
       → IsPort m.start m.holder i m.history (merged_known m k (other_view b u))
   merge_port m i k false u st t = record {
     origin_is = t.origin_is;
     own = λ q o. ((t.own q o).0, refl);
-    future = t.future;
+    unused = t.unused;
     apart = t.apart;
   }
   merge_port m i k true u st t = record {
@@ -861,14 +880,20 @@ module _ {T E R O : Type 0} (origin : T → O) (stands : T → List (Entry E R) 
     own = λ q o. (
       ⊎_elim (λ e. (t.own q (inl e)).0)
           (λ a. ⊎_elim (λ x. (t.own q (inr x)).0) (λ x. (st.numbers refl q x).holder_is)
-          (among-append q u.number k.joined u.joined a)) o,
+          (among-append q (as_joined u) k.joined u.joined a)) o,
       refl,
     );
-    future = t.future;
-    apart = λ q a. ⊎_elim (t.apart q) (λ x. let y = st.numbers refl q x in (
-      y.not_own,
-      y.not_future,
-    )) (among-append q u.number k.joined u.joined a);
+    unused = λ q o. ⊎_elim (λ f. t.unused q (inl f))
+        (λ b. ⊎_elim (λ x. t.unused q (inr x))
+        (λ x. let y = st.unused refl q x in (y.holder_is, y.calls_are))
+        (below-append q (as_joined u) k.joined u.joined b)) o;
+    apart = λ q o. ⊎_elim
+        (λ a. ⊎_elim (λ x. t.apart q (inl x))
+        (λ x. let y = st.numbers refl q x in (y.not_own, y.not_future))
+        (among-append q (as_joined u) k.joined u.joined a))
+        (λ b. ⊎_elim (λ x. t.apart q (inr x))
+        (λ x. let y = st.unused refl q x in (y.not_own, y.not_future))
+        (below-append q (as_joined u) k.joined u.joined b)) o;
   }
 
   -- a stage names the seat that it has taken in
@@ -911,7 +936,7 @@ module _ {T E R O : Type 0} (origin : T → O) (stands : T → List (Entry E R) 
         other_seen = st.seen;
         same_origin = λ o e. (fit.port port).origin_is
             ∙ ap (λ (z : O). Some z) (sym (st.origin_is o e));
-        other_calls = λ yes q x. (st.numbers yes q x).calls;
+        other_calls = λ yes q x. (st.numbers yes q x).calls_are;
       }
 
   pub merges : (slots id : ℕ) (me : M) (b : Bool) (u : Known E R O) → me.0.is_port ≡ true
@@ -944,6 +969,17 @@ module _ {T E R O : Type 0} (origin : T → O) (stands : T → List (Entry E R) 
         },
       ))
 
+  -- a number that was taken in, while the seat holds the numbers that it held
+  owns_still : (m : Mo) (holder : List ℕ → ℕ) (lone : Bool) (j : ℕ) (k : Known E R O)
+      {calls : List (Entry E R)} (q : List ℕ) → ((q : List ℕ) → m.holder q ≡ j → holder q ≡ j)
+      → OwnsNumber m j k calls q → OwnsNumber (with_holder m holder lone) j k calls q
+  owns_still m holder lone j k q still a = record {
+    holder_is = still q a.holder_is;
+    calls_are = a.calls_are;
+    not_own = a.not_own;
+    not_future = a.not_future;
+  }
+
   -- a seat that was taken in, while the seat holds the numbers that it held
   met_still : (m : Mo) (holder : List ℕ → ℕ) (lone : Bool) (j : ℕ) (k : Known E R O) (b : Bool)
       (u : Known E R O) → ((q : List ℕ) → m.holder q ≡ j → holder q ≡ j) → HasMet m j k b u
@@ -952,12 +988,8 @@ module _ {T E R O : Type 0} (origin : T → O) (stands : T → List (Entry E R) 
     seen = h.seen;
     origin_is = h.origin_is;
     drawn = h.drawn;
-    numbers = λ yes q one. let a = h.numbers yes q one in record {
-      holder_is = still q a.holder_is;
-      calls = a.calls;
-      not_own = a.not_own;
-      not_future = a.not_future;
-    };
+    numbers = λ yes q one. owns_still m holder lone j k q still (h.numbers yes q one);
+    unused = λ yes q one. owns_still m holder lone j k q still (h.unused yes q one);
   }
 
   -- the moment after a seat was split
@@ -1019,7 +1051,7 @@ module _ {T E R O : Type 0} (origin : T → O) (stands : T → List (Entry E R) 
     -- numbers of another seat still belong to it
     theirs_stay : (j : ℕ) (q : List ℕ) → j ≢ i → m.holder q ≡ j → Forked.holder q ≡ j
     theirs_stay j q other h = forked_else m.holder (next_number k) new q
-        (apart-not-front k.number k.splits q (λ t. other (sym h ∙ (mine.future q t).0))) ∙ h
+        (apart-not-front k.number k.splits q (λ t. other (sym h ∙ (mine.unused q (inl t)).0))) ∙ h
 
     split_staged : (j : ℕ) (d : Known E R O) → j ≢ i → (m.lone ≡ true → ⊥) → (st : Stage E R O)
         → Stand m j d st → Stand Forked j d st
@@ -1042,7 +1074,7 @@ module _ {T E R O : Type 0} (origin : T → O) (stands : T → List (Entry E R) 
       port = λ e. let t = f.port e in record {
         origin_is = t.origin_is;
         own = λ q o. let a = t.own q o in (theirs_stay j q other a.0, a.1);
-        future = λ q o. let a = t.future q o in (theirs_stay j q other a.0, a.1);
+        unused = λ q o. let a = t.unused q o in (theirs_stay j q other a.0, a.1);
         apart = t.apart;
       };
     }
@@ -1051,7 +1083,7 @@ module _ {T E R O : Type 0} (origin : T → O) (stands : T → List (Entry E R) 
     own_stays : (q : List ℕ) → IsOwn k q → Forked.holder q ≡ i
     own_stays q o =
         let n : has_front (next_number k) q ≡ false = apart-not-front k.number k.splits q
-        (λ t. ⊎_elim (λ e. future-not-self k.number k.splits q t e) (λ a. (mine.apart q a).1 t)
+        (λ t. ⊎_elim (λ e. future-not-self k.number k.splits q t e) (λ a. (mine.apart q (inl a)).1 t)
         o) in
         forked_else m.holder (next_number k) new q n ∙ (mine.own q o).0
 
@@ -1070,13 +1102,19 @@ module _ {T E R O : Type 0} (origin : T → O) (stands : T → List (Entry E R) 
           port = λ _. record {
             origin_is = mine.origin_is;
             own = λ q o. (own_stays q o, (mine.own q o).1);
-            future = λ q o. let a = mine.future q (future_sooner k.number k.splits q o)
-                in (
+            unused = λ q o. ⊎_elim
+                (λ f. let a = mine.unused q (inl (future_sooner k.number k.splits q f)) in (
                   forked_else m.holder (next_number k) new q
-                      (future-not-front k.number k.splits q o)
+                      (future-not-front k.number k.splits q f)
                       ∙ a.0,
                   a.1,
-                );
+                ))
+                (λ b. let a = mine.unused q (inr b) in (
+                  forked_else m.holder (next_number k) new q
+                      (apart-not-front k.number k.splits q (mine.apart q (inr b)).1)
+                      ∙ a.0,
+                  a.1,
+                )) o;
             apart = λ q a. let t = mine.apart q a in (
               t.0,
               λ o. t.1 (future_sooner k.number k.splits q o),
@@ -1090,7 +1128,7 @@ module _ {T E R O : Type 0} (origin : T → O) (stands : T → List (Entry E R) 
     front_of_child q a = (
       forked_here m.holder (next_number k) new q
           (ap (has_front (next_number k)) a.1 ∙ has_front-append (next_number k) a.0),
-      (mine.future q (front_is_future k.number k.splits q a)).1,
+      (mine.unused q (inl (front_is_future k.number k.splits q a))).1,
     )
 
     split_child : (v : V) → v.known ≡ k → Fit m i v
@@ -1116,8 +1154,9 @@ module _ {T E R O : Type 0} (origin : T → O) (stands : T → List (Entry E R) 
                   self.1
                       ∙ sym none_seen,
                 )) (λ a. absurd a) o;
-            future = λ q o. front_of_child q (o.count ∷ o.rest, o.number_is);
-            apart = λ q a. absurd a;
+            unused = λ q o. ⊎_elim (λ f. front_of_child q (f.count ∷ f.rest, f.number_is))
+                (λ n. absurd n) o;
+            apart = λ q a. ⊎_elim (λ n. absurd n) (λ n. absurd n) a;
           };
         }
 
@@ -1202,7 +1241,7 @@ module _ {T E R O : Type 0} (origin : T → O) (stands : T → List (Entry E R) 
     port = λ e. let t = f.port e in record {
       origin_is = t.origin_is;
       own = λ q o. let a = t.own q o in (passed_else m.holder other i j q apart a.0, a.1);
-      future = λ q o. let a = t.future q o in (passed_else m.holder other i j q apart a.0, a.1);
+      unused = λ q o. let a = t.unused q o in (passed_else m.holder other i j q apart a.0, a.1);
       apart = t.apart;
     };
   }
@@ -1217,9 +1256,15 @@ module _ {T E R O : Type 0} (origin : T → O) (stands : T → List (Entry E R) 
     drawn = g.drawn;
     numbers = λ yes q one. let a = (g.port yes).own q one in record {
       holder_is = passed_here m.holder other i q a.0;
-      calls = a.1;
+      calls_are = a.1;
       not_own = λ e. apart (sym (mine.own q (inl e)).0 ∙ a.0);
-      not_future = λ t. apart (sym (mine.future q t).0 ∙ a.0);
+      not_future = λ t. apart (sym (mine.unused q (inl t)).0 ∙ a.0);
+    };
+    unused = λ yes q one. let a = (g.port yes).unused q one in record {
+      holder_is = passed_here m.holder other i q a.0;
+      calls_are = a.1;
+      not_own = λ e. apart (sym (mine.own q (inl e)).0 ∙ a.0);
+      not_future = λ t. apart (sym (mine.unused q (inl t)).0 ∙ a.0);
     };
   }
 

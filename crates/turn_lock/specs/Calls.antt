@@ -7,7 +7,7 @@ use Rattle.turn_lock.specs.declared.faults.Busy.{Busy}
 use Rattle.turn_lock.specs.declared.call_fault.CallFault.{CallFault}
 use Rattle.turn_lock.specs.declared.call_fault.CallFault.TheVariants.{Memory, Exhausted, Journal}
 use Rattle.turn_lock.specs.History.{StartsWith, IsAmong, entry, calls_by}
-use Rattle.turn_lock.specs.Rule.{fresh_known, IsOwn}
+use Rattle.turn_lock.specs.Rule.{fresh_known, IsOwn, IsUnused}
 
 -- whether the port has an origin, and the history that it has seen is legal from that origin
 pub record IsLegal {E R O : Type 0} (legal : O → List (Entry E R) → Type 0) (known : Known E R O)
@@ -100,14 +100,16 @@ pub record Meets {E R O : Type 0} (legal : O → List (Entry E R) → Type 0) (b
 pub record Joins {E R O : Type 0} (legal : O → List (Entry E R) → Type 0)
     (before other after : Known E R O) : Type 0 where
   pub sees : Sees legal before after
-  pub joined : after.joined ≡ before.joined ++ other.number ∷ other.joined
+  pub joined : after.joined ≡ before.joined
+      ++ record { number = other.number; splits = other.splits } ∷ other.joined
   pub drawn : other.drawn ≤ after.drawn
   pub other_seen : StartsWith after.seen other.seen
   pub same_origin : other.origin ≡ before.origin
   pub other_calls : (q : List ℕ) → IsOwn other q → calls_by q after.seen ≡ calls_by q other.seen
 
 -- whether the value results from a legal history that begins with all that the port had seen and
--- has no further call of the port's number or of a number joined into it
+-- has no further call of the port's number or of a number joined into it, and none of a number that
+-- no port has
 pub record Yields {T E R O : Type 0} (origin : T → O) (stands : T → List (Entry E R) → Type 0)
     (legal : O → List (Entry E R) → Type 0) (known : Known E R O) (value : T) : Type 0 where
   pub origin_is : known.origin ≡ Some (origin value)
@@ -116,3 +118,10 @@ pub record Yields {T E R O : Type 0} (origin : T → O) (stands : T → List (En
   pub lawful : legal (origin value) history
   pub seen : StartsWith history known.seen
   pub own_calls : (q : List ℕ) → IsOwn known q → calls_by q history ≡ calls_by q known.seen
+  pub unused : (q : List ℕ) → IsUnused known q → calls_by q history ≡ []
+
+-- whether a finding is right for the history that a port has seen, by the origin of its lock
+abbrev pub FindsOf : {E R O Q A : Type 0} → (finds : O → List (Entry E R) → Q → A → Type 0)
+    → Known E R O → Q → A → Type 0
+FindsOf {O = O} finds known question finding =
+    (origin : O) × (known.origin ≡ Some origin) × finds origin known.seen question finding

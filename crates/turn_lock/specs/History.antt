@@ -1,15 +1,16 @@
 -- Histories of calls, and the numbers of the ports that made them.
 use Rattle.std.specs.Prelude.{◌≡◌, ◌⊎◌, ℕ, ◌≤◌, Bool, true, false, ◌&&◌, ◌==◌, if◌then◌else◌, List, [], ◌∷◌, ◌++◌}
+use Rattle.turn_lock.specs.declared.known.Joined.{Joined}
 use Rattle.turn_lock.specs.declared.turned.Entry.{Entry}
 
 -- whether the list xs begins with the list ys
 abbrev pub StartsWith : {A : Type 0} → List A → List A → Type 0
 StartsWith {A} xs ys = (rest : List A) × (xs ≡ ys ++ rest)
 
--- whether the number q is in the list
-abbrev pub IsAmong : List ℕ → List (List ℕ) → Type 0
+-- whether q is the number of one of these ports
+abbrev pub IsAmong : List ℕ → List Joined → Type 0
 IsAmong q [] = ⊥
-IsAmong q (number ∷ numbers) = (q ≡ number) ⊎ IsAmong q numbers
+IsAmong q (port ∷ ports) = (q ≡ port.number) ⊎ IsAmong q ports
 
 -- whether two port numbers are equal
 abbrev pub is_same_number : List ℕ → List ℕ → Bool
@@ -25,6 +26,17 @@ pub record IsFuture (number : List ℕ) (splits : ℕ) (q : List ℕ) : Type 0 w
   pub rest : List ℕ
   pub number_is : q ≡ number ++ count ∷ rest
   pub later : splits ≤ count
+
+-- whether q is the number of a port that a later split of one of these ports, or of its
+-- descendants, may make
+abbrev pub IsBelow : List ℕ → List Joined → Type 0
+IsBelow q [] = ⊥
+IsBelow q (port ∷ ports) = IsFuture port.number port.splits q ⊎ IsBelow q ports
+
+-- whether a port with this number, from which no other was split off, is one of these
+abbrev pub IsLeaf : List ℕ → List Joined → Type 0
+IsLeaf q [] = ⊥
+IsLeaf q (port ∷ ports) = ((q ≡ port.number) × (port.splits ≡ 0)) ⊎ IsLeaf q ports
 
 module _ {E R : Type 0} where
   -- the call of this event with this reply by the port of this number

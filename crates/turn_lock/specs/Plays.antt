@@ -11,7 +11,7 @@ use Rattle.turn_lock.specs.declared.known.Stage.{Stage}
 use Rattle.turn_lock.specs.declared.known.Stage.TheVariants.{Young, Idle, Turn, Met}
 use Rattle.turn_lock.specs.declared.board.Slot.{Slot}
 use Rattle.turn_lock.specs.History.{StartsWith, IsAmong, calls_by}
-use Rattle.turn_lock.specs.Rule.{max_turns, LastCall, full_slot, IsOwn, HasNoCalls}
+use Rattle.turn_lock.specs.Rule.{max_turns, LastCall, full_slot, IsOwn, IsUnused, HasNoCalls}
 use Rattle.turn_lock.specs.Calls.{IsLegal, Sees, Watches}
 use Rattle.turn_lock.specs.Seats.{SeatState, last_call, new_entries, view_with_served, view_after_turn, joined_with, seat_state, at_stage}
 
@@ -119,6 +119,8 @@ module _ {T E R O : Type 0} (origin : T → O) (stands : T → List (Entry E R) 
     pub carried : after.carried ≡ (0, full_slot value last) ∷ before.carried
     pub results : stands value after.view.known.seen
     pub origin_is : before.view.known.origin ≡ Some (origin value)
+    pub unused : (q : List ℕ) → IsUnused before.view.known q
+        → calls_by q after.view.known.seen ≡ []
 
   -- whether the seat has taken the value at this turn, and has read that the turn was drawn
   pub record TakesTurn (turn : ℕ) (before after : SeatState T E R O) : Type 0 where

@@ -16,7 +16,7 @@ use Rattle.turn_lock.specs.declared.known.View.{View}
 use Rattle.turn_lock.specs.declared.known.Stage.{Stage}
 use Rattle.turn_lock.specs.declared.known.Stage.TheVariants.{New, Young, Idle, Turn, SawServing, Met}
 use Rattle.turn_lock.specs.declared.board.Slot.{Slot}
-use Rattle.turn_lock.specs.History.{StartsWith, IsAmong, IsFuture, calls_by}
+use Rattle.turn_lock.specs.History.{StartsWith, IsAmong, IsBelow, IsFuture, calls_by}
 
 -- the largest bound that a lock may be made with
 abbrev pub max_turns : ℕ
@@ -55,6 +55,15 @@ full_slot value last = record { value = Some value; last = last }
 abbrev pub IsOwn : {E R O : Type 0} → Known E R O → List ℕ → Type 0
 IsOwn known q = (q ≡ known.number) ⊎ IsAmong q known.joined
 
+-- whether q is a number that no port has: a later split of the port, or of one joined into it, may
+-- make a port with it
+abbrev pub IsUnused : {E R O : Type 0} → Known E R O → List ℕ → Type 0
+IsUnused known q = IsFuture known.number known.splits q ⊎ IsBelow q known.joined
+
+-- whether q is the number of a port that was joined in, or one below it
+abbrev pub IsTaken : {E R O : Type 0} → Known E R O → List ℕ → Type 0
+IsTaken known q = IsAmong q known.joined ⊎ IsBelow q known.joined
+
 -- whether the port has seen no call of its own
 abbrev pub HasNoCalls : {E R O : Type 0} → Known E R O → Type 0
 HasNoCalls known = calls_by known.number known.seen ≡ []
@@ -89,11 +98,11 @@ module _ {T E R O : Type 0} where
     pub not_closed : now.closed ≡ 0
 
   -- Whether the number of a port that this seat has taken in is the seat's now, and neither the
-  -- seat's own port nor a split of it has this number. The other port had seen all calls of it.
-  pub record OwnsNumber (now : Moment T E R O) (seat : ℕ) (known other : Known E R O) (q : List ℕ)
-      : Type 0 where
+  -- seat's own port nor a split of it has this number. These are all calls of it.
+  pub record OwnsNumber (now : Moment T E R O) (seat : ℕ) (known : Known E R O)
+      (calls : List (Entry E R)) (q : List ℕ) : Type 0 where
     pub holder_is : now.holder q ≡ seat
-    pub calls : calls_by q now.history ≡ calls_by q other.seen
+    pub calls_are : calls_by q now.history ≡ calls
     pub not_own : q ≢ known.number
     pub not_future : ¬ IsFuture known.number known.splits q
 
@@ -104,7 +113,9 @@ module _ {T E R O : Type 0} where
     pub origin_is : (o : O) → other.origin ≡ Some o → o ≡ now.start
     pub drawn : other.drawn ≤ now.ticket
     pub numbers : other_is_port ≡ true → (q : List ℕ) → IsOwn other q
-        → OwnsNumber now seat known other q
+        → OwnsNumber now seat known (calls_by q other.seen) q
+    pub unused : other_is_port ≡ true → (q : List ℕ) → IsUnused other q
+        → OwnsNumber now seat known [] q
 
   -- whether a seat at this stage knows what holds at the moment; `first` is the value that the lock
   -- was made with
@@ -127,16 +138,15 @@ module _ {T E R O : Type 0} (origin : T → O) (stands : T → List (Entry E R) 
     pub origin_is : origin value ≡ now.start
     pub not_closed : now.closed ≡ 0
 
--- Whether a port has seen all calls of its own numbers. The numbers that its later splits may have,
--- have no calls, and all these numbers are distinct.
+-- Whether a port has seen all calls of its own numbers. Those that no port has, have no calls, and
+-- all these numbers are distinct.
 pub record IsPort {E R O : Type 0} (start : O) (holder : List ℕ → ℕ) (seat : ℕ)
     (history : List (Entry E R)) (known : Known E R O) : Type 0 where
   pub origin_is : known.origin ≡ Some start
   pub own : (q : List ℕ) → IsOwn known q
       → (holder q ≡ seat) × (calls_by q history ≡ calls_by q known.seen)
-  pub future : (q : List ℕ) → IsFuture known.number known.splits q
-      → (holder q ≡ seat) × (calls_by q history ≡ [])
-  pub apart : (q : List ℕ) → IsAmong q known.joined
+  pub unused : (q : List ℕ) → IsUnused known q → (holder q ≡ seat) × (calls_by q history ≡ [])
+  pub apart : (q : List ℕ) → IsTaken known q
       → (q ≢ known.number) × ¬ IsFuture known.number known.splits q
 
 -- whether the view of a seat agrees with the moment

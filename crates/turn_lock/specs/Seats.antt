@@ -4,6 +4,7 @@ use Rattle.atomic_table.specs.Table.{Me}
 use Rattle.atomic_table.specs.Seated.{TableId}
 use Rattle.atomic_table.specs.declared.shared.Seat.{Seat}
 use Rattle.turn_lock.specs.declared.turned.Entry.{Entry}
+use Rattle.turn_lock.specs.declared.known.Joined.{Joined}
 use Rattle.turn_lock.specs.declared.known.Known.{Known}
 use Rattle.turn_lock.specs.declared.known.View.{View}
 use Rattle.turn_lock.specs.declared.known.Stage.{Stage}
@@ -89,9 +90,11 @@ module _ {E R O : Type 0} where
   }
 
   -- the numbers joined into a port once it has taken in another seat: a port brings its own numbers
-  abbrev pub joined_with : Known E R O → View E R O → List (List ℕ)
+  abbrev pub joined_with : Known E R O → View E R O → List Joined
   joined_with known other = if other.is_port
-      then known.joined ++ other.known.number ∷ other.known.joined else known.joined
+      then known.joined
+      ++ record { number = other.known.number; splits = other.known.splits } ∷ other.known.joined
+      else known.joined
 
 -- A seat: its view, and the slots that it carries.
 pub record SeatState (T E R O : Type 0) : Type 0 where

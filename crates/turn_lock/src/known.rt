@@ -3,18 +3,25 @@
 use crate::turned::Entry;
 use std::collections::LinkedList;
 
+/// A port that was joined into another: its number, and the count of ports that were split off from
+/// it.
+pub struct Joined {
+    pub number: LinkedList<u64>,
+    pub splits: u64,
+}
+
 /// A port's knowledge, as contracts see it.
 ///
 /// `origin` is the origin of the value that the lock was made with (`None` if the port was joined
 /// into another). `number` identifies the port; the first port's is empty. `splits` counts the
-/// ports split off from it, and `joined` has the numbers of those joined in. `seen` is the history
+/// ports split off from it, and `joined` has those joined in. `seen` is the history
 /// that the port has seen, `drawn` the greatest count of drawn turns that it has read, and `served`
 /// the last count of ended turns that it has read.
 pub struct Known<E, R, O> {
     pub origin: Option<O>,
     pub number: LinkedList<u64>,
     pub splits: u64,
-    pub joined: LinkedList<LinkedList<u64>>,
+    pub joined: LinkedList<Joined>,
     pub seen: LinkedList<Entry<E, R>>,
     pub drawn: u64,
     pub served: u64,

@@ -4,6 +4,7 @@ ghost use Rattle.std.specs.Prelude.{OnErr};
 ghost use Rattle.turn_lock.specs.Rule.{HasNoCalls};
 ghost use Rattle.turn_lock.specs.Calls.{IsLegal, Called, Watches, IsCause, EndsTurn};
 ghost use Rattle.turn_lock.specs.Calls.{parent_after_split, child_after_split, Meets, Joins};
+ghost use Rattle.turn_lock.specs.Calls.{FindsOf};
 
 use crate::board::{Board, Place};
 use crate::call_fault::CallFault;
@@ -186,7 +187,7 @@ impl<T: Inspected> Port<T> {
     ) -> Option<T::Finding>
         ensures lock { (self.new.lock ≡ self.old.lock) × (self.new.bound ≡ self.old.bound) }
         ensures watches { Watches T.legal self.old.known self.new.known }
-        ensures finds { IfSome result (T.finds self.new.known.seen question) }
+        ensures finds { IfSome result (FindsOf T.finds self.new.known question) }
         ensures within { OnSome result (length self.new.known.seen ≤ self.old.bound) }
         ensures exhausted { IfNone result (self.old.bound ≤ self.new.known.drawn) }
     {
@@ -211,7 +212,7 @@ impl<T: Inspected> Port<T> {
     ) -> Result<(T::Reply, T::Finding), CallFault>
         ensures lock { (self.new.lock ≡ self.old.lock) × (self.new.bound ≡ self.old.bound) }
         ensures ok { IfOk result (λ r. Called T.legal self.old.known event r.0 self.new.known) }
-        ensures finds { IfOk result (λ r. T.finds self.new.known.seen question r.1) }
+        ensures finds { IfOk result (λ r. FindsOf T.finds self.new.known question r.1) }
         ensures err { IfErr result (λ f. Watches T.legal self.old.known self.new.known
             × IsCause T.sure event self.old.bound self.new.known f) }
         ensures within { OnOk result (length self.new.known.seen ≤ self.old.bound) }

@@ -1,10 +1,11 @@
 //! The operations that the calls of a port consist of. Each takes steps on the table; a call that
 //! waits repeats them.
 ghost use Rattle.std.specs.Prelude.{◌≡◌, ◌+◌, ◌<◌, ◌≤◌, [], ◌∷◌, ◌++◌, Some, None, length, IfOk};
-ghost use Rattle.std.specs.Prelude.{IfErr, IfSome, IfNone, Option};
+ghost use Rattle.std.specs.Prelude.{IfErr, IfSome, IfNone, List, OnOk, Option, ℕ};
 ghost use Rattle.std.specs.declared.snapshot.Snapshot.{Snapshot};
 ghost use Rattle.turn_lock.specs.declared.known.Stage.TheVariants.{Young, Idle, Turn};
-ghost use Rattle.turn_lock.specs.Rule.{max_turns, LastCall, full_slot, HasNoCalls};
+ghost use Rattle.turn_lock.specs.History.{calls_by};
+ghost use Rattle.turn_lock.specs.Rule.{max_turns, LastCall, full_slot, HasNoCalls, IsUnused};
 ghost use Rattle.turn_lock.specs.Calls.{IsLegal, Watches, IsBusy};
 ghost use Rattle.turn_lock.specs.Seats.{IsSized, IsReady, empty_slot, with_stage, new_entries};
 ghost use Rattle.turn_lock.specs.Seats.{parent_view, child_view, note_view, seat_with, at_stage};
@@ -179,6 +180,8 @@ pub(crate) fn draw_last<T: Turned>(top: &Top<T>, place: &mut Place<T>) -> Result
     ensures watches { Watches T.legal (known_of place.old) (known_of place.new) }
     ensures ok { IfOk result (λ x. ((known_of place.new).origin ≡ Some (T.origin x))
         × T.stands x (known_of place.new).seen) }
+    ensures unused { OnOk result ((q : List ℕ) → IsUnused (known_of place.old) q
+        → calls_by q (known_of place.new).seen ≡ []) }
     ensures err { IfErr result (λ b. IsReady place.new Idle []
         × IsBusy (known_of place.old) (known_of place.new) b) }
 {

@@ -67,8 +67,10 @@ pub trait Inspected: Turned {
     /// The answer to a question.
     type Finding: Drop;
 
-    /// Ghost relation: the finding is right for a value that results from this history.
-    ghost finds: { List (Entry Self.Event Self.Reply) → Self.Question → Self.Finding → Type 0 };
+    /// Ghost relation: the finding is right for a value that results from this history, which began
+    /// at this origin.
+    ghost finds: { Self.Origin → List (Entry Self.Event Self.Reply) → Self.Question → Self.Finding
+        → Type 0 };
 
     /// Answers a question. The value may change what it has besides its history: it then still
     /// results from the histories it resulted from before.
@@ -77,5 +79,5 @@ pub trait Inspected: Turned {
         ensures preserved { (h : List (Entry Self.Event Self.Reply)) → Self.stands self.old h
             → Self.stands self.new h }
         ensures finds { (h : List (Entry Self.Event Self.Reply)) → Self.stands self.old h
-            → finds h question result };
+            → finds (Self.origin self.old) h question result };
 }
