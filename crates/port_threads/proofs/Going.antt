@@ -3,7 +3,8 @@
 use Rattle.std.proofs.Common.{◌≡◌, ℕ, List, [], ◌∷◌, ◌++◌, refl, sym, ◌∙◌, ap, subst, inl, inr, arith, append_assoc, append-nil}
 use Rattle.turn_lock.specs.declared.turned.Entry.{Entry}
 use Rattle.turn_lock.specs.declared.known.Known.{Known}
-use Rattle.turn_lock.specs.History.{StartsWith, IsAmong, calls_by}
+use Rattle.turn_lock.specs.declared.known.Joined.{Joined}
+use Rattle.turn_lock.specs.History.{StartsWith, IsAmong, IsBelow, IsLeaf, calls_by}
 use Rattle.turn_lock.specs.Rule.{IsOwn}
 use Rattle.turn_lock.specs.Calls.{Joins, parent_after_split}
 use Rattle.turn_lock.specs.Shown.{ShownPort}
@@ -16,15 +17,48 @@ pub starts_trans : {A : Type 0} (xs ys zs : List A) → StartsWith ys xs → Sta
     → StartsWith zs xs
 starts_trans xs ys zs s t = (s.0 ++ t.0, t.1 ∙ ap (λ ws. ws ++ t.0) s.1 ∙ append_assoc xs s.0 t.0)
 
-pub among_front : (n : List ℕ) (ms ns : List (List ℕ)) → IsAmong n ms → IsAmong n (ms ++ ns)
+pub among_front : (n : List ℕ) (ms ns : List Joined) → IsAmong n ms → IsAmong n (ms ++ ns)
 among_front n [] ns h = absurd h
 among_front n (m ∷ ms) ns h = elim h [ inl e ↦ inl e | inr later ↦ inr (among_front n ms ns later) ]
 
-pub among_at : {m n : List ℕ} → m ≡ n → (ms ns : List (List ℕ)) → IsAmong n (ms ++ m ∷ ns)
-among_at e [] ns = inl (sym e)
-among_at e (k ∷ ms) ns = inr (among_at e ms ns)
+pub among_at : {n : List ℕ} (m : Joined) → m.number ≡ n → (ms ns : List Joined)
+    → IsAmong n (ms ++ m ∷ ns)
+among_at m e [] ns = inl (sym e)
+among_at m e (k ∷ ms) ns = inr (among_at m e ms ns)
+
+pub leaf_front : (n : List ℕ) (ms ns : List Joined) → IsLeaf n ms → IsLeaf n (ms ++ ns)
+leaf_front n [] ns h = absurd h
+leaf_front n (m ∷ ms) ns h = elim h [ inl e ↦ inl e | inr later ↦ inr (leaf_front n ms ns later) ]
+
+pub leaf_at : {n : List ℕ} (m : Joined) → m.number ≡ n → m.splits ≡ 0 → (ms ns : List Joined)
+    → IsLeaf n (ms ++ m ∷ ns)
+leaf_at m e none [] ns = inl (sym e, none)
+leaf_at m e none (k ∷ ms) ns = inr (leaf_at m e none ms ns)
+
+-- a port from which none was split off is one of those that were joined in
+pub leaf_among : (n : List ℕ) (ms : List Joined) → IsLeaf n ms → IsAmong n ms
+leaf_among n [] h = absurd h
+leaf_among n (m ∷ ms) h = elim h [ inl e ↦ inl e.0 | inr later ↦ inr (leaf_among n ms later) ]
+
+-- and no port has a number that begins with its number
+pub leaf_below : (n : List ℕ) (count : ℕ) (rest : List ℕ) (ms : List Joined) → IsLeaf n ms
+    → IsBelow (n ++ count ∷ rest) ms
+leaf_below n count rest [] h = absurd h
+leaf_below n count rest (m ∷ ms) h = elim h [
+  | inl e ↦ inl record {
+    count = count;
+    rest = rest;
+    number_is = ap (λ (l : List ℕ). l ++ count ∷ rest) e.0;
+    later = omega (arith, e.1);
+  }
+  | inr later ↦ inr (leaf_below n count rest ms later)
+]
 
 module _ {E R O : Type 0} where
+  -- a port, once it was joined in
+  abbrev pub as_joined : Known E R O → Joined
+  as_joined u = record { number = u.number; splits = u.splits }
+
   own_later : (p q : ShownPort E R O) → PortContinues p q → (n : List ℕ) → IsOwn p.known n
       → IsOwn q.known n
   own_later p q s n h = elim h [
@@ -44,6 +78,7 @@ module _ {E R O : Type 0} where
         drawn = omega arith;
         seen = starts_itself p.known.seen;
         joined = λ n among. among;
+        leaves = λ n leaf. leaf;
         own = λ n own. refl;
       }
 
@@ -59,6 +94,7 @@ module _ {E R O : Type 0} where
         drawn = omega (arith, s.drawn, t.drawn);
         seen = starts_trans p.known.seen q.known.seen r.known.seen s.seen t.seen;
         joined = λ n among. t.joined n (s.joined n among);
+        leaves = λ n leaf. t.leaves n (s.leaves n leaf);
         own = λ n own. t.own n (own_later p q s n own) ∙ s.own n own;
       }
 
@@ -76,6 +112,8 @@ module _ {E R O : Type 0} where
         seen = ([], ap (λ k. k.seen) known ∙ sym (append-nil p.known.seen));
         joined = λ n among. let Q : Known E R O → Type 0 =
             λ k. IsAmong n k.joined in subst Q (sym known) among;
+        leaves = λ n leaf. let Q : Known E R O → Type 0 =
+            λ k. IsLeaf n k.joined in subst Q (sym known) leaf;
         own = λ n own. ap (λ k. calls_by n k.seen) known;
       }
 
@@ -91,7 +129,9 @@ module _ {E R O : Type 0} where
         splits = omega (arith, joins.sees.splits);
         drawn = joins.sees.drawn;
         seen = joins.sees.seen;
-        joined = λ n among. rw joins.joined (among_front n p.known.joined (u.number
+        joined = λ n among. rw joins.joined (among_front n p.known.joined (as_joined u
             ∷ u.joined) among);
+        leaves = λ n leaf. rw joins.joined (leaf_front n p.known.joined (as_joined u
+            ∷ u.joined) leaf);
         own = joins.sees.own_calls;
       }

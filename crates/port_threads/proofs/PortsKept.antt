@@ -8,7 +8,8 @@ use Rattle.turn_lock.specs.History.{calls_by}
 use Rattle.turn_lock.specs.Shown.{ShownPort, IsSame}
 use Rattle.port_threads.specs.Ports.{PortContinues, AreJoined, AreServed, Returns, child}
 use Rattle.port_threads.specs.Sessions.{IsEmpty, AreHeld, IsOpen, IsEnded, KeepsPorts}
-use Rattle.port_threads.proofs.Going.{among_at, goes_refl, goes_trans, goes_split, goes_joins}
+use Rattle.port_threads.proofs.Going.{as_joined, leaf_among, leaf_at, goes_refl, goes_trans}
+use Rattle.port_threads.proofs.Going.{goes_split, goes_joins}
 use Rattle.port_threads.proofs.Going.{starts_trans}
 
 -- a port that was returned is the one that was lent
@@ -82,6 +83,7 @@ module _ {H E R O : Type 0} (port_of : H → ShownPort E R O) (terms_of : H → 
   pub record IsThis (s : H) (number : List ℕ) : Type 0 where
     pub named : (port_of s).known.number ≡ number
     pub fresh : calls_by number (port_of s).known.seen ≡ []
+    pub unsplit : (port_of s).known.splits ≡ 0
     pub on_terms : terms_of s ≡ terms
 
   -- an open session remains open if another place is cleared; otherwise it is the session that was
@@ -94,7 +96,12 @@ module _ {H E R O : Type 0} (port_of : H → ShownPort E R O) (terms_of : H → 
             let found : Some o.session ≡ Some s = sym o.there ∙ ap (get held) same ∙ there in
             let equal : o.session ≡ s = cc in
             let P : H → Type 0 = λ h. IsThis h number in
-            inl (subst P equal record { named = o.named; fresh = o.fresh; on_terms = o.on_terms })
+            inl (subst P equal record {
+              named = o.named;
+              fresh = o.fresh;
+              unsplit = o.unsplit;
+              on_terms = o.on_terms;
+            })
         | inr differs ↦ inr record {
           key = o.key;
           session = o.session;
@@ -102,6 +109,7 @@ module _ {H E R O : Type 0} (port_of : H → ShownPort E R O) (terms_of : H → 
           named = o.named;
           fresh =
               o.fresh;
+          unsplit = o.unsplit;
           on_terms = o.on_terms;
         }
       ]
@@ -110,7 +118,7 @@ module _ {H E R O : Type 0} (port_of : H → ShownPort E R O) (terms_of : H → 
   ended_on : (p q : ShownPort E R O) (number : List ℕ) → PortContinues p q → Ends p number
       → Ends q number
   ended_on p q number goes e = record {
-    among = goes.joined number e.among;
+    among = goes.leaves number e.among;
     served =
         let c = e.served in
         record {
@@ -120,17 +128,19 @@ module _ {H E R O : Type 0} (port_of : H → ShownPort E R O) (terms_of : H → 
           fresh = c.fresh;
           returned = c.returned;
           seen = starts_trans c.back.known.seen p.known.seen q.known.seen c.seen goes.seen;
-          calls_are = goes.own number (inr e.among) ∙ c.calls_are;
+          calls_are = goes.own number (inr (leaf_among number p.known.joined e.among))
+              ∙ c.calls_are;
         };
   }
 
   -- the port of a session was joined in
   ended_now : (legal : O → List (Entry E R) → Type 0) (p q lent r : ShownPort E R O)
       (number : List ℕ) → Joins legal p.known r.known q.known → lent.known.number ≡ number
-      → calls_by number lent.known.seen ≡ [] → r.known.number ≡ number → Returns (did terms) lent r
-      → Ends q number
-  ended_now legal p q lent r number joins named fresh same returned = record {
-    among = rw joins.joined (among_at same p.known.joined r.known.joined);
+      → calls_by number lent.known.seen ≡ [] → r.known.number ≡ number → r.known.splits ≡ 0
+      → Returns (did terms) lent r → Ends q number
+  ended_now legal p q lent r number joins named fresh same unsplit returned = record {
+    among = rw joins.joined (leaf_at (as_joined r.known) same unsplit p.known.joined
+        r.known.joined);
     served = record {
       lent = lent;
       back = r;
@@ -167,7 +177,8 @@ module _ {H E R O : Type 0} (port_of : H → ShownPort E R O) (terms_of : H → 
             let A : List ℕ → Type 0 = λ n. Ends q (child n i) ⊎ Opens later (child n i) in
             let account : A p.known.number = ⊎_elim (λ e. inl (ended_on p q number goes e))
             (λ o. ⊎_elim (λ now. inl (ended_now legal p q (port_of s) r number joins now.named
-            now.fresh (same.number ∙ now.named) (subst R now.on_terms returned)))
+            now.fresh (same.number ∙ now.named) (same.splits ∙ now.unsplit)
+            (subst R now.on_terms returned)))
             (λ still. inr still) (open_later held later key s number there updates o))
             (a i low before) in
             subst A (sym joins.sees.number) account;
@@ -196,8 +207,10 @@ module _ {H E R O : Type 0} (port_of : H → ShownPort E R O) (terms_of : H → 
       ap (λ k. k.number) birth in
       let K : List ℕ → Type 0 = λ n. calls_by n own.known.seen ≡ [] in
       let F : ShownPort E R O → Type 0 = λ x. (x.known.number ≡ child p.known.number p.known.splits)
-      × (calls_by (child p.known.number p.known.splits) x.known.seen ≡ []) in
-      let new : F (port_of s) = subst F (sym is) (numbered, subst K numbered fresh) in
+      × (calls_by (child p.known.number p.known.splits) x.known.seen ≡ [])
+      × (x.known.splits ≡ 0) in
+      let new : F (port_of s) = subst F (sym is)
+      (numbered, subst K numbered fresh, ap (λ k. k.splits) birth) in
       record {
         goes = goes;
         holds = λ h. record {
@@ -227,6 +240,7 @@ module _ {H E R O : Type 0} (port_of : H → ShownPort E R O) (terms_of : H → 
                 there = updates.changed;
                 named = new.0;
                 fresh = new.1;
+                unsplit = new.2;
                 on_terms = on_terms;
               })
               | inr earlier ↦
@@ -242,6 +256,7 @@ module _ {H E R O : Type 0} (port_of : H → ShownPort E R O) (terms_of : H → 
                           named =
                               o.named;
                           fresh = o.fresh;
+                          unsplit = o.unsplit;
                           on_terms = o.on_terms;
                         }
                   ]
@@ -278,7 +293,8 @@ module _ {H E R O : Type 0} (port_of : H → ShownPort E R O) (terms_of : H → 
             let account : A p.known.number = elim (cases_eq i p.known.splits) [
               | inl last ↦ inl (subst N (sym last)
                   (ended_now legal q r own back (child p.known.number p.known.splits) joins numbered
-                  (subst K numbered fresh) (same.number ∙ numbered) returned))
+                  (subst K numbered fresh) (same.number ∙ numbered)
+                  (same.splits ∙ ap (λ k. k.splits) birth) returned))
               | inr earlier ↦
                   elim (a i low (omega (arith, one_more, joins.sees.splits, high, earlier))) [
                     | inl ended ↦ inl (ended_on p r (child p.known.number i) goes ended)

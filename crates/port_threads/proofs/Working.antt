@@ -1,18 +1,17 @@
 -- Splitting a port off for a worker, and joining it in again.
 use Rattle.std.proofs.Common.{◌≡◌, List, Option, Some, None, refl, sym, ◌∙◌, ap, inl, arith}
-use Rattle.std.specs.Prelude.{Result}
 use Rattle.turn_lock.specs.declared.turned.Entry.{Entry}
-use Rattle.turn_lock.specs.declared.call_fault.CallFault.{CallFault}
 use Rattle.turn_lock.specs.Calls.{Joins, parent_after_split, child_after_split}
 use Rattle.turn_lock.specs.Shown.{ShownPort, IsSame}
 use Rattle.port_threads.specs.Ports.{PortContinues, AreJoined, TakesIn, child}
 use Rattle.port_threads.specs.Workers.{EndsWork}
-use Rattle.port_threads.proofs.Going.{among_at, goes_trans, goes_split, goes_joins}
+use Rattle.port_threads.proofs.Going.{among_at, as_joined, leaf_at, goes_trans, goes_split}
+use Rattle.port_threads.proofs.Going.{goes_joins}
 
 module _ {E R O : Type 0} where
-  pub ended_same : (did : ShownPort E R O → ShownPort E R O → Result (Unit {0}) CallFault → Type 0)
-      (p q : ShownPort E R O) (end : Option (Result (Unit {0}) CallFault))
-      → ((r s : ShownPort E R O) (e : Result (Unit {0}) CallFault) → did r s e → IsSame r s)
+  pub ended_same : {A : Type 0} (did : ShownPort E R O → ShownPort E R O → A → Type 0)
+      (p q : ShownPort E R O) (end : Option A)
+      → ((r s : ShownPort E R O) (e : A) → did r s e → IsSame r s)
       → EndsWork did p q end → IsSame p q
   ended_same did p q None same e =
       record {
@@ -33,7 +32,9 @@ module _ {E R O : Type 0} where
       record {
         goes = goes_joins legal p q u.known lock bound joins;
         splits = joins.sees.splits;
-        joined = rw joins.joined (among_at refl p.known.joined u.known.joined);
+        joined = rw joins.joined (among_at (as_joined u.known) refl p.known.joined u.known.joined);
+        leaf = λ none. rw joins.joined (leaf_at (as_joined u.known) refl none p.known.joined
+            u.known.joined);
         drawn = joins.drawn;
         told = joins.other_seen;
         theirs = joins.other_calls u.known.number (inl refl);
@@ -51,6 +52,7 @@ module _ {E R O : Type 0} where
         λ i low high.
             let last : i ≡ p.known.splits = omega (arith, one_more, joins.sees.splits, low, high) in
             rw (joins.sees.number ∙ ap (λ k. k.number) divides)
-            (rw joins.joined (among_at (same.number ∙ ap (λ k. k.number) birth
-            ∙ ap (child p.known.number) (sym last)) q.known.joined back.known.joined)),
+            (rw joins.joined (leaf_at (as_joined back.known) (same.number
+            ∙ ap (λ k. k.number) birth ∙ ap (child p.known.number) (sym last))
+            (same.splits ∙ ap (λ k. k.splits) birth) q.known.joined back.known.joined)),
       )

@@ -1,7 +1,7 @@
 -- The development of a port while others work through ports that were split off from it.
 use Rattle.std.specs.Prelude.{◌≡◌, ◌⊎◌, ℕ, ◌+◌, ◌<◌, ◌≤◌, List, [], ◌∷◌, ◌++◌}
 use Rattle.turn_lock.specs.declared.turned.Entry.{Entry}
-use Rattle.turn_lock.specs.History.{StartsWith, IsAmong, calls_by}
+use Rattle.turn_lock.specs.History.{StartsWith, IsAmong, IsLeaf, calls_by}
 use Rattle.turn_lock.specs.Rule.{IsOwn}
 use Rattle.turn_lock.specs.Shown.{ShownPort}
 
@@ -16,16 +16,18 @@ pub record PortContinues {E R O : Type 0} (p q : ShownPort E R O) : Type 0 where
   pub drawn : p.known.drawn ≤ q.known.drawn
   pub seen : StartsWith q.known.seen p.known.seen
   pub joined : (n : List ℕ) → IsAmong n p.known.joined → IsAmong n q.known.joined
+  pub leaves : (n : List ℕ) → IsLeaf n p.known.joined → IsLeaf n q.known.joined
   pub own : (n : List ℕ) → IsOwn p.known n → calls_by n q.known.seen ≡ calls_by n p.known.seen
 
 -- the number of the port that was split off when i ports had been split off before
 abbrev pub child : List ℕ → ℕ → List ℕ
 child number i = number ++ i ∷ []
 
--- whether each port that was split off, from the count `from` on, was joined in
+-- whether each port that was split off, from the count `from` on, was joined in, and none was split
+-- off from it
 abbrev pub AreJoined : {E R O : Type 0} → ℕ → ShownPort E R O → Type 0
 AreJoined from p = (i : ℕ) → from ≤ i → i < p.known.splits
-    → IsAmong (child p.known.number i) p.known.joined
+    → IsLeaf (child p.known.number i) p.known.joined
 
 -- whether the port `own` was split off from p, whose later state is q
 pub record SplitsOff {E R O : Type 0} (p own q : ShownPort E R O) : Type 0 where
@@ -34,6 +36,7 @@ pub record SplitsOff {E R O : Type 0} (p own q : ShownPort E R O) : Type 0 where
   pub lock : own.lock ≡ p.lock
   pub bound : own.bound ≡ p.bound
   pub number : own.known.number ≡ child p.known.number p.known.splits
+  pub unsplit : own.known.splits ≡ 0
   pub fresh : calls_by own.known.number own.known.seen ≡ []
 
 -- whether the port r was joined into p, whose later state is q
@@ -41,6 +44,7 @@ pub record TakesIn {E R O : Type 0} (p r q : ShownPort E R O) : Type 0 where
   pub goes : PortContinues p q
   pub splits : q.known.splits ≡ p.known.splits
   pub joined : IsAmong r.known.number q.known.joined
+  pub leaf : r.known.splits ≡ 0 → IsLeaf r.known.number q.known.joined
   pub drawn : r.known.drawn ≤ q.known.drawn
   pub told : StartsWith q.known.seen r.known.seen
   pub theirs : calls_by r.known.number q.known.seen ≡ calls_by r.known.number r.known.seen

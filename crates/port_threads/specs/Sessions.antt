@@ -4,7 +4,7 @@ use Rattle.std.specs.Prelude.{◌≡◌, ◌≢◌, ◌⊎◌, ℕ, ◌+◌, ◌
 use Rattle.std.specs.declared.thread.PromisedHandle.{PromisedHandle}
 use Rattle.slab.specs.Slab.{Slab, get, slab_len}
 use Rattle.turn_lock.specs.declared.port.Port.{Port}
-use Rattle.turn_lock.specs.History.{IsAmong, calls_by}
+use Rattle.turn_lock.specs.History.{IsLeaf, calls_by}
 use Rattle.turn_lock.specs.Shown.{ShownPort}
 use Rattle.port_threads.specs.declared.accepted.Accepted.{Accepted}
 use Rattle.port_threads.specs.declared.accepted.Admission.{Admission}
@@ -48,12 +48,13 @@ module _ {H E R O : Type 0} (lent : H → ShownPort E R O) (terms_of : H → Lis
     pub there : get held key ≡ Some session
     pub named : (lent session).known.number ≡ number
     pub fresh : calls_by number (lent session).known.seen ≡ []
+    pub unsplit : (lent session).known.splits ≡ 0
     pub on_terms : terms_of session ≡ terms
 
   -- whether the port with this number was joined in, and its calls are those of a session on these
   -- terms
   pub record IsEnded (p : ShownPort E R O) (number : List ℕ) : Type 0 where
-    pub among : IsAmong number p.known.joined
+    pub among : IsLeaf number p.known.joined
     pub served : AreCallsOf (did terms) number p.known.seen
 
   -- whether each port that was split off, from the count `from` on, was joined in or is that of an

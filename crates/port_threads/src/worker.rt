@@ -10,24 +10,26 @@ use std::sync::atomic::{AtomicBool, Ordering};
 use std::sync::{Arc, Wait};
 use std::thread;
 use std::thread::{Promise, PromisedHandle, Threads};
-use turn_lock::{CallFault, Port, Turned};
+use turn_lock::{Port, Turned};
 
 /// Work for a thread of its own, through a port of type `P`.
 ///
 /// The relation `did` states what was done, in terms of the worker at its start, its port as lent
 /// and as returned, and the result. The predicate `fits` states through which ports it can work.
 pub trait Worker<P>: Drop + Send {
-    ghost use Rattle.std.specs.Prelude.{⊤, Result};
-    ghost use Rattle.turn_lock.specs.declared.call_fault.CallFault.{CallFault};
+    ghost use Rattle.std.specs.Prelude.{⊤};
+
+    /// The result of the work.
+    type End: Drop;
 
     /// Ghost predicate: the worker can work through this port. The default is every port.
     ghost fits: { P → Type 0 } = { λ _. ⊤ };
 
     /// Ghost relation: what the worker did with its port, and its result.
-    ghost did: { Self → P → P → Result Unit CallFault → Type 0 };
+    ghost did: { Self → P → P → Self.End → Type 0 };
 
     /// Works until nothing is left to do or a call is refused, and returns the port and the result.
-    fn work<W: Wait>(self, rt: &W, alloc: Global, port: P) -> (P, Result<(), CallFault>)
+    fn work<W: Wait>(self, rt: &W, alloc: Global, port: P) -> (P, Self::End)
     where
         Self: Sized,
         requires { fits port }
@@ -36,7 +38,7 @@ pub trait Worker<P>: Drop + Send {
 
 /// The result of a worker's thread: the port, and the result of the work, or `None` if the work was
 /// not started.
-pub type Handed<T> = (Port<T>, Option<Result<(), CallFault>>);
+pub type Handed<T, E> = (Port<T>, Option<E>);
 
 /// The promise of a worker's thread: the worker did its work through this port.
 #[derive(Drop)]
@@ -45,13 +47,13 @@ pub struct WorkerPromise<T: Turned, K> {
     pub port: Snapshot<Port<T>>,
 }
 
-impl<T: Turned, K: Worker<Port<T>>> Promise<Handed<T>> for WorkerPromise<T, K> {
+impl<T: Turned, K: Worker<Port<T>>> Promise<Handed<T, K::End>> for WorkerPromise<T, K> {
     ghost kept_by = { λ task handed.
         EndsWork (K.did task.worker.value) task.port.value handed.0 handed.1 };
 }
 
 /// The handle of a running worker's thread.
-pub type WorkerThread<T, K> = PromisedHandle<Handed<T>, WorkerPromise<T, K>>;
+pub type WorkerThread<T, K, E> = PromisedHandle<Handed<T, E>, WorkerPromise<T, K>>;
 
 // Does the work of a worker's thread. If the thread was refused, does nothing.
 pub(crate) fn do_work<T: Turned, K: Worker<Port<T>>, W: Wait + Copy>(
@@ -60,7 +62,7 @@ pub(crate) fn do_work<T: Turned, K: Worker<Port<T>>, W: Wait + Copy>(
     refused: Arc<AtomicBool, Global>,
     worker: K,
     port: Port<T>,
-) -> Handed<T>
+) -> Handed<T, K::End>
     requires { K.fits port }
     ensures { EndsWork (K.did worker) port result.0 result.1 }
 {
@@ -77,8 +79,14 @@ fn start_thread<
     T: Turned + Send + 'static,
     K: Worker<Port<T>> + 'static,
     R: Threads + Wait + Copy + Send + 'static,
->(rt: &R, alloc: Global, worker: K, port: Port<T>) -> Result<WorkerThread<T, K>, Port<T>>
+>(
+    rt: &R,
+    alloc: Global,
+    worker: K,
+    port: Port<T>,
+) -> Result<WorkerThread<T, K, K::End>, Port<T>>
 where
+    K::End: Send + 'static,
     T::Event: Send + 'static,
     T::Reply: Send + 'static,
     T::Origin: 'static,
@@ -99,7 +107,7 @@ where
         worker: Snapshot::of(&worker),
         port: Snapshot::of(&port),
     };
-    let work = move || -> Handed<T>
+    let work = move || -> Handed<T, K::End>
         requires { K.fits port }
     { do_work(here, alloc, theirs, worker, port) };
     match thread::spawn_with(rt, task, work) {
@@ -117,8 +125,14 @@ pub fn start_worker<
     T: Turned + Send + 'static,
     K: Worker<Port<T>> + 'static,
     R: Threads + Wait + Copy + Send + 'static,
->(rt: &R, alloc: Global, worker: K, port: &mut Port<T>) -> Option<WorkerThread<T, K>>
+>(
+    rt: &R,
+    alloc: Global,
+    worker: K,
+    port: &mut Port<T>,
+) -> Option<WorkerThread<T, K, K::End>>
 where
+    K::End: Send + 'static,
     T::Event: Send + 'static,
     T::Reply: Send + 'static,
     T::Origin: 'static,
@@ -146,9 +160,9 @@ where
 /// Waits for the end of a worker and joins its port in. Returns `None` if the work was not started.
 pub fn join_worker<T: Turned, K: Worker<Port<T>>, R: Threads>(
     rt: &R,
-    running: WorkerThread<T, K>,
+    running: WorkerThread<T, K, K::End>,
     port: &mut Port<T>,
-) -> Option<Result<(), CallFault>>
+) -> Option<K::End>
     requires lock { running.promise.port.value.lock ≡ port.old.lock }
     requires hands_back { (w : _) (p : _) (q : _) (end : _) → K.did w p q end → IsSame p q }
     ensures { let task = running.promise
