@@ -79,12 +79,7 @@ fn start_thread<
     T: Turned + Send + 'static,
     K: Worker<Port<T>> + 'static,
     R: Threads + Wait + Copy + Send + 'static,
->(
-    rt: &R,
-    alloc: Global,
-    worker: K,
-    port: Port<T>,
-) -> Result<WorkerThread<T, K, K::End>, Port<T>>
+>(rt: &R, alloc: Global, worker: K, port: Port<T>) -> Result<WorkerThread<T, K, K::End>, Port<T>>
 where
     K::End: Send + 'static,
     T::Event: Send + 'static,
@@ -125,12 +120,7 @@ pub fn start_worker<
     T: Turned + Send + 'static,
     K: Worker<Port<T>> + 'static,
     R: Threads + Wait + Copy + Send + 'static,
->(
-    rt: &R,
-    alloc: Global,
-    worker: K,
-    port: &mut Port<T>,
-) -> Option<WorkerThread<T, K, K::End>>
+>(rt: &R, alloc: Global, worker: K, port: &mut Port<T>) -> Option<WorkerThread<T, K, K::End>>
 where
     K::End: Send + 'static,
     T::Event: Send + 'static,
