@@ -159,7 +159,7 @@ impl Inspected for Kept {
 
     type Finding = Finding;
 
-    ghost finds = { Finds };
+    ghost finds = { λ _. Finds };
 
     fn inspect(&mut self, _alloc: Global, question: Question) -> Finding {
         match &mut self.pending {

@@ -1,6 +1,6 @@
 //! The sources of blocks of samples, moments and presses, and the source of events that each of
 //! them is to a worker.
-ghost use Rattle.std.specs.Prelude.{ℕ, List, Option, None};
+ghost use Rattle.std.specs.Prelude.{◌≡◌, ℕ, List, Option, None};
 ghost use Rattle.lane_sampler.specs.Samples.{Samples};
 ghost use Rattle.shared_meter.specs.Sources.{AllMoments, AllPresses, Gives, Includes, Offers, Presses};
 ghost use Rattle.relay_events.specs.declared.event.Event.{Event};
@@ -28,6 +28,11 @@ pub trait MomentSource: Drop {
     /// meter's time. `None` is the end of the source.
     fn next_moment(&mut self) -> Option<u32>
         ensures { Gives (forecast self.old) result (forecast self.new) };
+
+    /// Receives the meter's reply to the moment that was returned last. The default does nothing.
+    fn receive(&mut self, _reply: &Reply)
+        ensures { forecast self.new ≡ forecast self.old }
+    {}
 }
 
 /// A source of presses of the meter's button.
@@ -73,6 +78,10 @@ impl<S: MomentSource> EventSource for MomentEvents<S> {
             Some(now) => Some(Event::Moment(now)),
             None => None,
         }
+    }
+
+    fn receive(&mut self, reply: &Reply) {
+        self.source.receive(reply);
     }
 }
 
