@@ -4,16 +4,19 @@ use Rattle.std.proofs.Common.{◌≡◌, ◌⊎◌, ℕ, zero, suc, ◌<◌, ◌
 use Rattle.std.proofs.Common.{Option, Some, None, Result, Ok, Err, refl, sym, ap, subst, ◌∙◌}
 use Rattle.std.proofs.Common.{inl, inr, arith}
 use Rattle.std.proofs.lemmas.List.{append-nil, append_assoc}
-use Rattle.std.specs.Prelude.{IfSome}
+use Rattle.std.proofs.Common.{drop}
 use Rattle.meter_server.specs.Journaled.{AreWritten, HasCalled, IsHeldBack, IsOnDisk, IsWritten}
 use Rattle.meter_server.specs.Journaled.{JournalSteps}
-use Rattle.meter_server.specs.JournaledSessions.{AnswersCalls, AreAnswered, AreJournaled, HandsBack}
-use Rattle.meter_server.specs.JournaledSessions.{HasJournal, client_terms}
-use Rattle.meter_server.specs.Ports.{Enters, entries}
+use Rattle.meter_server.specs.JournaledSessions.{AnswersCalls, AreAnswered}
+use Rattle.meter_server.specs.JournaledSessions.{client_steps, client_terms, steps_by}
+use Rattle.meter_server.specs.Ports.{Enters, PortSteps, entries}
+use Rattle.meter_server.specs.Sessions.{ServesClient}
 use Rattle.shared_meter.specs.Handed.{MeterPort}
 use Rattle.meter_server.proofs.PortLemmas.{ArePortSteps, effect_by, entered, enters_more, is_same}
-use Rattle.meter_server.proofs.PortLemmas.{refusal_enters, replied_on, same_on, step_same}
-use Rattle.port_threads.specs.Ports.{AreCallsOf, AreServed, child}
+use Rattle.meter_server.proofs.PortLemmas.{port_steps, refusal_enters, replied_on, same_on}
+use Rattle.meter_server.proofs.PortLemmas.{step_same}
+use Rattle.meter_server.proofs.SessionLemmas.{client_same}
+use Rattle.port_threads.specs.Ports.{AreCallsOf}
 use Rattle.relay_events.specs.declared.event.Event.{Event}
 use Rattle.relay_events.specs.declared.reply.Reply.{Reply}
 use Rattle.session_core.specs.declared.end.SessionEnd.{SessionEnd}
@@ -282,12 +285,12 @@ module _ (IsDurable : Calls → ℕ → Type 0) (HasEnded : Type 0)
       effect_by Steps (AnswersCalls IsDurable) replied_answered
       refused_answered (plan_of password) served.seen before result after served.effect
 
-module _ (IsDurable : Calls → ℕ → Type 0) where
-  -- the calls of a new port that served a session with a journal, or was returned unused
-  calls_answered : (terms number : List ℕ) (history : Calls) → HasJournal terms
-      → AreCallsOf (HandsBack IsDurable terms) number history
+  -- the calls of a new port that a client's session went through, or that was returned unused
+  pub client_answered : {I O : Type 0} (remaining : I → Option (List ℕ))
+      (contents : O → Option (List ℕ)) (password number : List ℕ) (history : Calls)
+      → AreCallsOf (ServesClient remaining contents Steps password) number history
       → AreAnswered IsDurable number [] history
-  calls_answered terms number history has c = elim c.returned [
+  client_answered remaining contents password number history c = elim c.returned [
     | inl unused ↦ record {
       answered = [];
       unanswered = [];
@@ -299,27 +302,43 @@ module _ (IsDurable : Calls → ℕ → Type 0) where
       on_disk = λ low. absurd (omega (arith, low));
     }
     | inr session ↦
+        let answers = served_answered password _ session.end _ session.serves in
         let N : List ℕ → Type 0 = λ n. AreAnswered IsDurable n (calls_by n c.lent.known.seen)
         c.back.known.seen in
         let E : Calls → Type 0 = λ earlier. AreAnswered IsDurable number earlier
         c.back.known.seen in
         answered_later IsDurable number c.back.known.seen history c.seen c.calls_are
-        (subst E c.fresh (subst N c.named (session.2 has)))
+        (subst E c.fresh (subst N c.named answers))
   ]
 
-  pub are_journaled : (terms : List ℕ) (from : ℕ) (port : MeterPort)
-      → AreServed (HandsBack IsDurable terms) from port → HasJournal terms
-      → AreJournaled IsDurable from port
-  are_journaled terms from port served has i low high =
-      calls_answered terms (child port.known.number i) _ has (served i low high)
+module _ {I O : Type 0} (remaining : I → Option (List ℕ)) (contents : O → Option (List ℕ))
+    (IsDurable : Calls → ℕ → Type 0) (HasEnded : Type 0) (WasRunning : MeterPort → Type 0)
+  where
+    -- the work of a client's session, by the terms on which it was served
+    abbrev pub ByTerms : List ℕ → MeterPort → MeterPort → Type 0
+    ByTerms terms = ServesClient remaining contents (steps_by IsDurable HasEnded WasRunning terms)
+        (drop 1 terms)
 
--- a fact that holds if the terms have a journal, and one that holds if there is a journal
-pub by_terms : {D : Type 0} (journal : Option D) (password : List ℕ) (A : Type 0)
-    → IfSome journal (λ _. A) → HasJournal (client_terms journal password) → A
-by_terms None password A so has = absurd (cc has)
-by_terms (Some given) password A so has = so
+    -- the same by the journal and the password that the terms are made of
+    abbrev pub ByJournal : {D : Type 0} → Option D → List ℕ → MeterPort → MeterPort → Type 0
+    ByJournal journal password = ServesClient remaining contents
+        (client_steps IsDurable HasEnded WasRunning journal) password
 
-pub if_journal : {D : Type 0} (journal : Option D) (password : List ℕ) (A : Type 0)
-    → (HasJournal (client_terms journal password) → A) → IfSome journal (λ _. A)
-if_journal None password A so = tt
-if_journal (Some given) password A so = so refl
+    pub by_journal : {D : Type 0} (journal : Option D) (password : List ℕ) (p q : MeterPort)
+        → ByTerms (client_terms journal password) p q → ByJournal journal password p q
+    by_journal None password p q session = session
+    by_journal (Some given) password p q session = session
+
+    pub by_terms : {D : Type 0} (journal : Option D) (password : List ℕ) (p q : MeterPort)
+        → ByJournal journal password p q → ByTerms (client_terms journal password) p q
+    by_terms None password p q session = session
+    by_terms (Some given) password p q session = session
+
+    -- the port of a client's session remains the same one
+    pub terms_same : (terms : List ℕ) (p q : MeterPort) → ByTerms terms p q → IsSame p q
+    terms_same [] p q session = client_same remaining contents PortSteps port_steps [] p q session
+    terms_same (zero ∷ password) p q session =
+        client_same remaining contents PortSteps port_steps password p q session
+    terms_same (suc n ∷ password) p q session =
+        client_same remaining contents (Steps IsDurable HasEnded WasRunning)
+        (journal_steps IsDurable HasEnded WasRunning) password p q session

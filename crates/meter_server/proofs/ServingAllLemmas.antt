@@ -5,26 +5,28 @@ use Rattle.std.specs.Prelude.{IfErr, IfSome, OnOk, Result, Ok, Err}
 use Rattle.relay_events.specs.declared.event.Event.{Event}
 use Rattle.relay_events.specs.declared.reply.Reply.{Reply}
 use Rattle.turn_lock.specs.declared.turned.Entry.{Entry}
+use Rattle.lane_sampler.specs.Samples.{Samples}
 use Rattle.session_io.specs.Settling.{fault_of}
 use Rattle.turn_lock.specs.declared.call_fault.CallFault.{CallFault}
 use Rattle.turn_lock.specs.declared.call_fault.CallFault.TheVariants as call
-use Rattle.turn_lock.specs.History.{IsAmong, calls_by}
+use Rattle.turn_lock.specs.History.{IsAmong, IsLeaf, calls_by}
 use Rattle.turn_lock.specs.Shown.{IsSame}
-use Rattle.port_threads.specs.Ports.{PortContinues, AreJoined, SplitsOff, TakesIn, child}
+use Rattle.port_threads.specs.Ports.{PortContinues, AreJoined, AreServed, SplitsOff, TakesIn}
+use Rattle.port_threads.specs.Ports.{child}
 use Rattle.port_threads.specs.Workers.{EndsWork, ReturnsPort}
 use Rattle.port_threads.proofs.Going.{goes_trans}
 use Rattle.shared_meter.specs.Calls.{Calls}
 use Rattle.shared_meter.specs.Handed.{MeterPort, PassesAll, own_events}
 use Rattle.shared_meter.specs.Handed.{StopsFor as WorkerStops}
-use Rattle.shared_meter.specs.Sources.{Includes}
+use Rattle.shared_meter.specs.Blocks.{AllBlocks}
+use Rattle.shared_meter.specs.Sources.{AllMoments, AllPresses, Includes}
 use Rattle.session_io.specs.declared.fault.ServeFault.{ServeFault}
 use Rattle.session_io.specs.declared.fault.ServeFault.TheVariants as fault
 use Rattle.meter_server.specs.declared.serving_all.Served.{Served}
-use Rattle.meter_server.specs.JournaledSessions.{AreJournaled}
-use Rattle.meter_server.specs.Sessions.{AreSessions}
-use Rattle.meter_server.proofs.SessionLemmas.{journaled_on, no_sessions, sessions_on}
-use Rattle.meter_server.specs.ServingAll.{events_by, Acted, EndsWith, IsServed, IsSpent, StopsFor, OnEnded, worker_fault, first_of}
-use Rattle.meter_server.specs.WithSources.{ServesWith, first_then}
+use Rattle.meter_server.proofs.SessionLemmas.{none_served, served_on}
+use Rattle.meter_server.specs.ServingAll.{Accounts, Acted, Counts, EndsWith, IsServed, IsSpent}
+use Rattle.meter_server.specs.ServingAll.{OnEnded, StopsFor, events_by, first_of, worker_fault}
+use Rattle.meter_server.specs.WithSources.{Forecasts, ServesAll, ServesWith, first_then}
 
 fresh_handed : (own : MeterPort) → calls_by own.known.number own.known.seen ≡ []
     → own_events own ≡ []
@@ -94,17 +96,17 @@ pub joined_on : (q last : MeterPort) (from : ℕ) → PortContinues q last
     → last.known.splits ≡ q.known.splits
     → AreJoined from q → AreJoined from last
 joined_on q last from goes splits joined i low high =
-    let J : List ℕ → Type 0 = λ n. IsAmong n last.known.joined in
+    let J : List ℕ → Type 0 = λ n. IsLeaf n last.known.joined in
     subst J (ap (λ n. child n i) (sym goes.number))
-    (goes.joined _ (joined i low (omega (arith, high, splits))))
+    (goes.leaves _ (joined i low (omega (arith, high, splits))))
 
 -- one more port was split off before the others
 joined_more : (p own lent last : MeterPort) → SplitsOff p own lent → PortContinues lent last
-    → AreJoined lent.known.splits last → IsAmong own.known.number last.known.joined
+    → AreJoined lent.known.splits last → IsLeaf own.known.number last.known.joined
     → AreJoined p.known.splits last
 joined_more p own lent last off goes joined mine i low high =
     let number = goes.number ∙ off.goes.number in
-    let J : List ℕ → Type 0 = λ n. IsAmong n last.known.joined in
+    let J : List ℕ → Type 0 = λ n. IsLeaf n last.known.joined in
     elim (cases_eq i p.known.splits) [
       | inl same ↦ subst J (off.number ∙ ap (λ n. child n p.known.splits) (sym number)
           ∙ ap (λ k. child last.known.number k) (sym same)) mine
@@ -283,40 +285,31 @@ module _ {W : Type 0} (CanFollow : W → List Event → Type 0) (worker : W)
       acted_beside (lent.known.splits + i) (p.known.splits + suc i) (Others i)
       (omega (arith, off.splits)) (acted i (omega (arith, low)))
 
-  -- the calls of the sessions, served in parallel with the worker alone, or with others too
-  pub journaled_alone : {D : Type 0} (journal : Option D) (IsDurable : Calls → ℕ → Type 0)
-      → AreJoined lent.known.splits mid
-      → IfSome journal (λ _. AreJournaled IsDurable lent.known.splits mid)
-      → IfSome journal (λ _. AreJournaled IsDurable (p.known.splits + 1) last)
-  journaled_alone journal IsDurable joined so =
-      journaled_on journal IsDurable lent.known.splits lent.known.splits (p.known.splits + 1) mid
-      last (omega (arith, off.splits)) (omega arith) ends.back.taken.goes ends.back.taken.splits
-      joined so
+  -- what the result and the listener say of each other
+  pub accounts_beside : (limit : ℕ) (before after : Counts) (A F : Type 0)
+      → PortContinues lent mid → Accounts limit before after A F served → (A → IsSpent mid)
+      → Accounts limit before after (IsSpent last) F result
+  accounts_beside limit before after A F goes accounts so = record {
+    limited = ok_beside ends _ accounts.limited;
+    counted = ok_beside ends _ accounts.counted;
+    reasons = ok_beside ends _ accounts.reasons;
+    fault = stops_beside A F goes accounts.fault so;
+  }
 
-  pub journaled_beside : {D : Type 0} (journal : Option D) (IsDurable : Calls → ℕ → Type 0)
-      (count : ℕ)
-      → AreJoined lent.known.splits mid
-      → IfSome journal (λ _. AreJournaled IsDurable (lent.known.splits + count) mid)
-      → IfSome journal (λ _. AreJournaled IsDurable (p.known.splits + (count + 1)) last)
-  journaled_beside journal IsDurable count joined so =
-      journaled_on journal IsDurable lent.known.splits (lent.known.splits + count)
-      (p.known.splits + (count + 1)) mid last (omega (arith, off.splits)) (omega arith)
-      ends.back.taken.goes ends.back.taken.splits joined so
-
-  serves_worker : (password : List ℕ) (count : ℕ) (Others : ℕ → List Event → Type 0)
-      → ServesWith password count Others lent mid served
-      → ServesWith password (count + 1) (first_then (CanFollow worker) Others) p last result
-  serves_worker password count Others inner =
+  serves_worker : (Serves : MeterPort → MeterPort → Type 0) (count : ℕ)
+      (Others : ℕ → List Event → Type 0) → ServesWith Serves count Others lent mid served
+      → ServesWith Serves (count + 1) (first_then (CanFollow worker) Others) p last result
+  serves_worker Serves count Others inner =
       let since = goes_trans lent mid last inner.goes ends.back.taken.goes in
       let from : lent.known.splits + count ≡ p.known.splits + (count + 1) =
       omega (arith, off.splits) in
-      let J : List ℕ → Type 0 = λ n. IsAmong n last.known.joined in
+      let J : List ℕ → Type 0 = λ n. IsLeaf n last.known.joined in
       record {
         goes = goes_trans p lent last off.goes since;
         joined = joined_more p own lent last off since (joined_on mid last _ ends.back.taken.goes
             ends.back.taken.splits inner.joined) (subst J ends.back.same.number
-            ends.back.taken.joined);
-        sessions = sessions_on password lent.known.splits _ _ mid last from (omega arith)
+            (ends.back.taken.leaf (ends.back.same.splits ∙ off.unsplit)));
+        sessions = served_on Serves lent.known.splits _ _ mid last from (omega arith)
             ends.back.taken.goes ends.back.taken.splits inner.joined inner.sessions;
         counted = ok_beside ends _ (counted_by served _ _ _ _ from (sym ends.back.taken.splits)
             inner.counted);
@@ -326,27 +319,25 @@ module _ {W : Type 0} (CanFollow : W → List Event → Type 0) (worker : W)
 -- the clients were served with one more source than before
 pub serves_beside : {W : Type 0} (CanFollow : W → List Event → Type 0) {worker given : W}
     {p own lent mid last : MeterPort} {served result : Result Served ServeFault}
-    {password : List ℕ} {count : ℕ} {Others : ℕ → List Event → Type 0}
+    {Serves : MeterPort → MeterPort → Type 0} {count : ℕ} {Others : ℕ → List Event → Type 0}
     → worker ≡ given → SplitsOff p own lent
     → EndsWith (Did (CanFollow worker)) own served result mid last
-    → ServesWith password count Others lent mid served
-    → ServesWith password (count + 1) (first_then (CanFollow given) Others) p last result
+    → ServesWith Serves count Others lent mid served
+    → ServesWith Serves (count + 1) (first_then (CanFollow given) Others) p last result
 serves_beside {W} CanFollow {worker} {given} {p} {own} {lent} {mid} {last} {served} {result}
-    {password}
-    {count} {Others} same off ends inner =
-    let P : W → Type 0 = λ w. ServesWith password (count + 1) (first_then (CanFollow w) Others) p
-    last
-    result in
-    subst P same (serves_worker CanFollow worker off ends password count Others inner)
+    {Serves} {count} {Others} same off ends inner =
+    let P : W → Type 0 = λ w. ServesWith Serves (count + 1) (first_then (CanFollow w) Others) p
+    last result in
+    subst P same (serves_worker CanFollow worker off ends Serves count Others inner)
 
 -- the clients were served with no source
-pub serves_alone : (password : List ℕ) (Any : ℕ → List Event → Type 0) (p q : MeterPort)
-    (served : Result Served ServeFault)
-    → PortContinues p q → AreJoined p.known.splits q → AreSessions password p.known.splits q
-    → IfOk served (IsServed p.known.splits q.known.splits) → ServesWith password 0 Any p q served
-serves_alone password Any p q served goes joined sessions counted =
+pub serves_alone : (Serves : MeterPort → MeterPort → Type 0) (Any : ℕ → List Event → Type 0)
+    (p q : MeterPort) (served : Result Served ServeFault)
+    → PortContinues p q → AreJoined p.known.splits q → AreServed Serves p.known.splits q
+    → IfOk served (IsServed p.known.splits q.known.splits) → ServesWith Serves 0 Any p q served
+serves_alone Serves Any p q served goes joined sessions counted =
     let same : p.known.splits ≡ p.known.splits + 0 = omega arith in
-    let S : ℕ → Type 0 = λ n. AreSessions password n q in
+    let S : ℕ → Type 0 = λ n. AreServed Serves n q in
     record {
       goes = goes;
       joined = joined;
@@ -356,27 +347,51 @@ serves_alone password Any p q served goes joined sessions counted =
     }
 
 -- a worker was not started, so no client was served
-pub serves_none : (password : List ℕ) (count : ℕ) (Any : ℕ → List Event → Type 0) (p q : MeterPort)
+pub serves_none : (Serves : MeterPort → MeterPort → Type 0) (count : ℕ)
+    (Any : ℕ → List Event → Type 0) (p q : MeterPort)
     → PortContinues p q → AreJoined p.known.splits q → q.known.splits ≤ p.known.splits + 1
-    → ServesWith password (count + 1) Any p q (Err fault.Memory)
-serves_none password count Any p q goes joined most = record {
+    → ServesWith Serves (count + 1) Any p q (Err fault.Memory)
+serves_none Serves count Any p q goes joined most = record {
   goes = goes;
   joined = joined;
-  sessions = no_sessions password _ q (omega (arith, most));
+  sessions = none_served Serves _ q (omega (arith, most));
   counted = tt;
   acted = λ i low. tt;
 }
 
--- the events of a source are all its events, and the result is the same
-pub acted_at : {password : List ℕ} {count : ℕ} {CanFollow : ℕ → List Event → Type 0}
-    {p q : MeterPort} {served result : Result Served ServeFault} (i n : ℕ)
-    (Whole : List Event → Type 0)
-    → ServesWith password count CanFollow p q served → i < count → p.known.splits + i ≡ n
-    → Includes Whole (CanFollow i) → served ≡ result
-    → OnEnded result (Acted q (child p.known.number n) Whole)
-acted_at {p = p} {q = q} {served = served} {result = result} i n Whole serves low same all is =
-    let N : ℕ → Type 0 = λ k. OnEnded result (Acted q (child p.known.number k) Whole) in
-    subst N same (subst (λ r. OnEnded r (Acted q (child p.known.number (p.known.splits + i))
-    Whole)) is
-    (ended_map served _ _ (λ acted. record { joined = acted.joined; whole = all _ acted.whole })
-    (serves.acted i low)))
+-- then nothing was counted
+pub accounts_none : (limit : ℕ) (before after : Counts) (spent failed : Type 0)
+    → Accounts limit before after spent failed (Err fault.Memory)
+accounts_none limit before after spent failed =
+    record { limited = tt; counted = tt; reasons = tt; fault = tt }
+
+-- the events of a source are all its events
+acted_at : {Serves : MeterPort → MeterPort → Type 0} {count : ℕ}
+    {CanFollow : ℕ → List Event → Type 0} {p q : MeterPort} {served : Result Served ServeFault}
+    (i n : ℕ) (Whole : List Event → Type 0) → ServesWith Serves count CanFollow p q served
+    → i < count → p.known.splits + i ≡ n → Includes Whole (CanFollow i)
+    → OnEnded served (Acted q (child p.known.number n) Whole)
+acted_at {p = p} {q = q} {served = served} i n Whole serves low same all =
+    let N : ℕ → Type 0 = λ k. OnEnded served (Acted q (child p.known.number k) Whole) in
+    subst N same (ended_map served _ _
+    (λ acted. record { joined = acted.joined; whole = all _ acted.whole }) (serves.acted i low))
+
+-- a meter's own sources are three, whose events are those of its blocks, moments and presses
+pub serves_sources : {Serves : MeterPort → MeterPort → Type 0} {sources : Forecasts}
+    {blocks : Option (List Samples)} {moments : Option (List ℕ)} {presses : Option ℕ}
+    {CanFollow : ℕ → List Event → Type 0} {p q : MeterPort} {served : Result Served ServeFault}
+    → sources ≡ record { blocks = blocks; moments = moments; presses = presses }
+    → ServesWith Serves 3 CanFollow p q served
+    → Includes (AllBlocks blocks) (CanFollow 0) → Includes (AllMoments moments) (CanFollow 1)
+    → Includes (AllPresses presses) (CanFollow 2) → ServesAll Serves sources p q served
+serves_sources {Serves} {sources} {blocks} {moments} {presses} {CanFollow} {p} {q} {served} same
+    serves all_blocks all_moments all_presses =
+    subst (λ (given : Forecasts). ServesAll Serves given p q served) (sym same) record {
+      goes = serves.goes;
+      joined = serves.joined;
+      sessions = serves.sessions;
+      counted = serves.counted;
+      blocks = acted_at 0 _ _ serves (omega arith) (omega arith) all_blocks;
+      moments = acted_at 1 _ _ serves (omega arith) (omega arith) all_moments;
+      presses = acted_at 2 _ _ serves (omega arith) (omega arith) all_presses;
+    }

@@ -17,15 +17,15 @@ use Rattle.shared_meter.specs.Calls.{Calls}
 use Rattle.turn_lock.specs.History.{StartsWith, calls_by}
 use Rattle.turn_lock.specs.Shown.{IsSame}
 use Rattle.port_threads.specs.Ports.{PortContinues, AreJoined, AreServed, AreCallsOf, child}
-use Rattle.std.proofs.Common.{drop, Option, Some, None}
-use Rattle.std.specs.Prelude.{IfSome}
-use Rattle.meter_server.specs.JournaledSessions.{AreAnswered, AreJournaled, HandsBack}
+use Rattle.std.proofs.Common.{Option}
 use Rattle.meter_server.specs.Ports.{Enters, entries}
 use Rattle.shared_meter.specs.Handed.{MeterPort}
 use Rattle.meter_server.specs.ServingAll.{events_by}
-use Rattle.meter_server.specs.Sessions.{AreAsked, AsksThrough, AreSessions}
-use Rattle.meter_server.proofs.JournalLemmas.{answered_later}
+use Rattle.meter_server.specs.Sessions.{AreAsked, AsksThrough, ServesClient}
+use Rattle.port_threads.proofs.Going.{leaf_among}
+use Rattle.turn_lock.proofs.Lists.{starts_trans}
 use Rattle.meter_server.proofs.PortLemmas.{ArePortSteps, is_same, same_on, replied_on, entered}
+use Rattle.meter_server.proofs.PortLemmas.{served_same}
 
 abbrev event_of : Entry Event Reply → Event
 event_of call = call.event
@@ -149,99 +149,99 @@ module _ (steps : MeterPort → Event → Result Reply CallFault → MeterPort �
   served_asks password before result after served =
       effect_asks password served.seen before result after served.effect
 
--- the calls of a new port that served a session, or was returned unused
-calls_asked : (IsDurable : Calls → ℕ → Type 0) (terms number : List ℕ) (history : Calls)
-    → AreCallsOf (HandsBack IsDurable terms) number history
-    → AreAsked (drop 1 terms) (map event_of (calls_by number history))
-calls_asked IsDurable terms number history c =
-    let calls = calls_by number history in
-    let A : List Event → Type 0 = λ es. AreAsked (drop 1 terms) es in
-    let none : map event_of (calls_by number c.lent.known.seen) ≡ [] = ap (map event_of) c.fresh in
-    elim c.returned [
-      | inl unused ↦
-          let empty : map event_of calls ≡ [] = ap (map event_of) c.calls_are
-          ∙ ap (λ (x : MeterPort). events_by number x) unused ∙ none in
-          subst A (sym empty) record {
-            input = [];
-            later = Asks (drop 1 terms) [];
-            all = refl;
-          }
-      | inr session ↦
-          let N : List ℕ → Type 0 = λ n. events_by n c.back ≡ events_by n c.lent
-          ++ session.1.asked in
-          let mine : events_by number c.back ≡ events_by number c.lent ++ session.1.asked =
-          subst N c.named session.1.entered in
-          let those : map event_of calls ≡ session.1.asked = ap (map event_of) c.calls_are ∙ mine
-          ∙ ap (λ (es : List Event). es ++ session.1.asked) none in
-          subst A (sym those) session.1.are
-    ]
+-- the calls of a new port that a client's session went through, or that was returned unused
+module _ {I O : Type 0} (remaining : I → Option (List ℕ)) (contents : O → Option (List ℕ))
+    (steps : MeterPort → Event → Result Reply CallFault → MeterPort → Type 0)
+    (is_port : ArePortSteps steps) where
+  pub client_same : (password : List ℕ) (p q : MeterPort)
+      → ServesClient remaining contents steps password p q → IsSame p q
+  client_same password p q session =
+      served_same steps is_port password _ session.end _ session.serves
 
-pub are_sessions : (IsDurable : Calls → ℕ → Type 0) (terms : List ℕ) (from : ℕ) (port : MeterPort)
-    → AreServed (HandsBack IsDurable terms) from port → AreSessions (drop 1 terms) from port
-are_sessions IsDurable terms from port served i low high =
-    calls_asked IsDurable terms (child port.known.number i) _ (served i low high)
+  pub client_asks : (password : List ℕ) (p q : MeterPort)
+      → ServesClient remaining contents steps password p q → AsksThrough password p q
+  client_asks password p q session =
+      served_asks steps is_port password _ session.end _ session.serves
 
--- a property of the calls of each port that was split off in the history: it remains if the history
--- is extended without further calls of that port
-module _ (P : List ℕ → Calls → Type 0)
-    (stays : (number : List ℕ) (before after : Calls) → StartsWith after before
-    → calls_by number after ≡ calls_by number before → P number before → P number after) where
-  abbrev Each : ℕ → MeterPort → Type 0
-  Each from port = (i : ℕ) → from ≤ i → i < port.known.splits
-      → P (child port.known.number i) port.known.seen
+  pub client_asked : (password number : List ℕ) (history : Calls)
+      → AreCallsOf (ServesClient remaining contents steps password) number history
+      → AreAsked password (map event_of (calls_by number history))
+  client_asked password number history c =
+      let calls = calls_by number history in
+      let A : List Event → Type 0 = λ es. AreAsked password es in
+      let none : map event_of (calls_by number c.lent.known.seen) ≡ [] =
+      ap (map event_of) c.fresh in
+      elim c.returned [
+        | inl unused ↦
+            let empty : map event_of calls ≡ [] = ap (map event_of) c.calls_are
+            ∙ ap (λ (x : MeterPort). events_by number x) unused ∙ none in
+            subst A (sym empty) record { input = []; later = Asks password []; all = refl }
+        | inr session ↦
+            let asks = client_asks password c.lent c.back session in
+            let N : List ℕ → Type 0 = λ n. events_by n c.back ≡ events_by n c.lent
+            ++ asks.asked in
+            let mine : events_by number c.back ≡ events_by number c.lent ++ asks.asked =
+            subst N c.named asks.entered in
+            let those : map event_of calls ≡ asks.asked = ap (map event_of) c.calls_are ∙ mine
+            ∙ ap (λ (es : List Event). es ++ asks.asked) none in
+            subst A (sym those) asks.are
+      ]
+
+-- facts about ports that did some work
+module _ (Did : MeterPort → MeterPort → Type 0) where
+  -- what a port did remains so if the history is extended without further calls of the port
+  pub calls_later : (number : List ℕ) (before after : Calls) → StartsWith after before
+      → calls_by number after ≡ calls_by number before → AreCallsOf Did number before
+      → AreCallsOf Did number after
+  calls_later number before after longer same c = record {
+    lent = c.lent;
+    back = c.back;
+    named = c.named;
+    fresh = c.fresh;
+    returned = c.returned;
+    seen = starts_trans after before c.back.known.seen longer c.seen;
+    calls_are = same ∙ c.calls_are;
+  }
 
   -- no port was split off
-  none_each : (from : ℕ) (port : MeterPort) → port.known.splits ≤ from → Each from port
-  none_each from port few i low high = absurd (omega (arith, few, low, high))
+  pub none_served : (from : ℕ) (port : MeterPort) → port.known.splits ≤ from
+      → AreServed Did from port
+  none_served from port few i low high = absurd (omega (arith, few, low, high))
 
-  -- facts about joined ports are preserved
-  each_on : (first from before : ℕ) (p q : MeterPort) → from ≡ before → first ≤ from
-      → PortContinues p q → q.known.splits ≡ p.known.splits → AreJoined first p → Each from p
-      → Each before q
-  each_on first from before p q same early goes splits joined each i low high =
+  -- once further ports were joined in
+  pub served_on : (first from before : ℕ) (p q : MeterPort) → from ≡ before → first ≤ from
+      → PortContinues p q → q.known.splits ≡ p.known.splits → AreJoined first p
+      → AreServed Did from p → AreServed Did before q
+  served_on first from before p q same early goes splits joined each i low high =
       let within : i < p.known.splits = omega (arith, high, splits) in
       let late : from ≤ i = omega (arith, low, same) in
       let number = child p.known.number i in
-      let N : List ℕ → Type 0 = λ n. P (child n i) q.known.seen in
+      let N : List ℕ → Type 0 = λ n. AreCallsOf Did (child n i) q.known.seen in
       let kept : calls_by number q.known.seen ≡ calls_by number p.known.seen =
-      goes.own number (inr (joined i (omega (arith, early, late)) within)) in
+      goes.own number (inr (leaf_among number p.known.joined
+      (joined i (omega (arith, early, late)) within))) in
       subst N (sym goes.number)
-      (stays number p.known.seen q.known.seen goes.seen kept (each i late within))
+      (calls_later number p.known.seen q.known.seen goes.seen kept (each i late within))
 
-abbrev Asked : List ℕ → List ℕ → Calls → Type 0
-Asked password number history = AreAsked password (map event_of (calls_by number history))
+-- a port that did some work did other work that it implies
+pub calls_as : (Did Other : MeterPort → MeterPort → Type 0)
+    → ((p q : MeterPort) → Did p q → Other p q) → (number : List ℕ) (history : Calls)
+    → AreCallsOf Did number history → AreCallsOf Other number history
+calls_as Did Other so number history c = record {
+  lent = c.lent;
+  back = c.back;
+  named = c.named;
+  fresh = c.fresh;
+  returned = elim c.returned [
+    | inl unused ↦ inl unused
+    | inr did ↦ inr (so c.lent c.back did)
+  ];
+  seen = c.seen;
+  calls_are = c.calls_are;
+}
 
-asked_later : (password number : List ℕ) (before after : Calls) → StartsWith after before
-    → calls_by number after ≡ calls_by number before → Asked password number before
-    → Asked password number after
-asked_later password number before after longer same asked =
-    subst (λ (calls : Calls). AreAsked password (map event_of calls)) (sym same) asked
-
-pub no_sessions : (password : List ℕ) (from : ℕ) (port : MeterPort) → port.known.splits ≤ from
-    → AreSessions password from port
-no_sessions password = none_each (Asked password) (asked_later password)
-
-pub sessions_on : (password : List ℕ) (first from before : ℕ) (p q : MeterPort) → from ≡ before
-    → first ≤ from → PortContinues p q → q.known.splits ≡ p.known.splits
-    → AreJoined first p → AreSessions password from p → AreSessions password before q
-sessions_on password = each_on (Asked password) (asked_later password)
-
-abbrev Answered : (Calls → ℕ → Type 0) → List ℕ → Calls → Type 0
-Answered IsDurable number history = AreAnswered IsDurable number [] history
-
-pub no_journaled : {D : Type 0} (journal : Option D) (IsDurable : Calls → ℕ → Type 0) (from : ℕ)
-    (port : MeterPort) → port.known.splits ≤ from
-    → IfSome journal (λ _. AreJournaled IsDurable from port)
-no_journaled None IsDurable from port few = tt
-no_journaled (Some given) IsDurable from port few =
-    none_each (Answered IsDurable) (answered_later IsDurable) from port few
-
-pub journaled_on : {D : Type 0} (journal : Option D) (IsDurable : Calls → ℕ → Type 0)
-    (first from before : ℕ) (p q : MeterPort) → from ≡ before
-    → first ≤ from → PortContinues p q → q.known.splits ≡ p.known.splits
-    → AreJoined first p → IfSome journal (λ _. AreJournaled IsDurable from p)
-    → IfSome journal (λ _. AreJournaled IsDurable before q)
-journaled_on None IsDurable first from before p q same early goes splits joined so = tt
-journaled_on (Some given) IsDurable first from before p q same early goes splits joined so =
-    each_on (Answered IsDurable) (answered_later IsDurable) first from before p q same early goes
-    splits joined so
+pub served_as : (Did Other : MeterPort → MeterPort → Type 0)
+    → ((p q : MeterPort) → Did p q → Other p q) → (from : ℕ) (port : MeterPort)
+    → AreServed Did from port → AreServed Other from port
+served_as Did Other so from port served i low high =
+    calls_as Did Other so (child port.known.number i) port.known.seen (served i low high)

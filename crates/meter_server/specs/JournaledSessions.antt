@@ -1,32 +1,25 @@
 -- Sessions of a server whose meter may have a journal.
 --     client_terms    the terms on which a client is served
 --     client_steps    a step of a client's port
+--     steps_by        a step of a client's port, by these terms
 --     AreAnswered     the calls of a session, of which all but at most the last were answered
 --                     from a front of the history that is on the disk
---     HandsBack       what the session of a client did with its port
---     AreJournaled    the calls of all sessions
-use Rattle.std.specs.Prelude.{◌≡◌, ℕ, ◌<◌, ◌≤◌, List, [], ◌∷◌, ◌++◌, length, take, drop}
+--     AnswersCalls    the new calls of a port, answered in this way
+use Rattle.std.specs.Prelude.{◌≡◌, ℕ, zero, suc, ◌<◌, ◌≤◌, List, [], ◌∷◌, ◌++◌, length}
 use Rattle.std.specs.Prelude.{Option, Some, None, is_some, if◌then◌else◌, Result}
 use Rattle.meter_server.specs.Journaled.{IsOnDisk, JournalSteps}
 use Rattle.meter_server.specs.Ports.{PortSteps}
 use Rattle.shared_meter.specs.Handed.{MeterPort}
-use Rattle.meter_server.specs.Sessions.{AsksThrough}
-use Rattle.port_threads.specs.Ports.{child}
 use Rattle.relay_events.specs.declared.event.Event.{Event}
 use Rattle.relay_events.specs.declared.reply.Reply.{Reply}
 use Rattle.shared_meter.specs.Calls.{Calls}
 use Rattle.turn_lock.specs.History.{StartsWith, calls_by}
-use Rattle.turn_lock.specs.Shown.{IsSame}
 use Rattle.turn_lock.specs.declared.call_fault.CallFault.{CallFault}
 
 -- the terms on which a client is served: 1 if the meter has a journal, and 0 if it has none; then
 -- the password of the management client
 abbrev pub client_terms : {D : Type 0} → Option D → List ℕ → List ℕ
 client_terms journal password = (if is_some journal then 1 else 0) ∷ password
-
--- whether by these terms the meter has a journal
-abbrev pub HasJournal : List ℕ → Type 0
-HasJournal terms = take 1 terms ≡ 1 ∷ []
 
 -- whether a call through a client's port had this result; if the meter has a journal, the port
 -- waits for it
@@ -35,6 +28,15 @@ abbrev pub client_steps : {D : Type 0} → (IsDurable : Calls → ℕ → Type 0
     → MeterPort → Type 0
 client_steps IsDurable HasEnded WasRunning None = PortSteps
 client_steps IsDurable HasEnded WasRunning (Some journal) =
+    JournalSteps IsDurable HasEnded WasRunning
+
+-- the same by the terms on which the client is served
+abbrev pub steps_by : (IsDurable : Calls → ℕ → Type 0) → (HasEnded : Type 0)
+    → (WasRunning : MeterPort → Type 0) → (terms : List ℕ) → MeterPort → Event
+    → Result Reply CallFault → MeterPort → Type 0
+steps_by IsDurable HasEnded WasRunning [] = PortSteps
+steps_by IsDurable HasEnded WasRunning (zero ∷ password) = PortSteps
+steps_by IsDurable HasEnded WasRunning (suc n ∷ password) =
     JournalSteps IsDurable HasEnded WasRunning
 
 -- Whether all calls of a port, except at most the last, were answered from the disk. In the
@@ -57,16 +59,3 @@ pub record AreAnswered (IsDurable : Calls → ℕ → Type 0) (number : List ℕ
 abbrev pub AnswersCalls : (IsDurable : Calls → ℕ → Type 0) → (p q : MeterPort) → Type 0
 AnswersCalls IsDurable p q = AreAnswered IsDurable p.known.number
     (calls_by p.known.number p.known.seen) q.known.seen
-
--- whether a session on these terms returned its port with the calls that it made, which were
--- answered once they were on the disk if the meter has a journal
-abbrev pub HandsBack : (IsDurable : Calls → ℕ → Type 0) → (terms : List ℕ) → (p q : MeterPort)
-    → Type 0
-HandsBack IsDurable terms p q = IsSame p q × AsksThrough (drop 1 terms) p q
-    × (HasJournal terms → AnswersCalls IsDurable p q)
-
--- whether the calls of each port that was split off, from the count `from` on, were answered once
--- they were on the disk
-abbrev pub AreJournaled : (IsDurable : Calls → ℕ → Type 0) → (from : ℕ) → MeterPort → Type 0
-AreJournaled IsDurable from port = (i : ℕ) → from ≤ i → i < port.known.splits
-    → AreAnswered IsDurable (child port.known.number i) [] port.known.seen

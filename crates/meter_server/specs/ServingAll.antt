@@ -1,16 +1,20 @@
 -- The effect of the server on its sources, its clients and its port.
 --     Acted                 the port with a number was joined in, with these events
 --     StopsFor, first_of    which fault is returned, and the order of faults
+--     Accounts              what the result and the listener say of each other
 --     EndsWith              the result of clients that were served in parallel with a worker, once
 --                           it is joined
 use Rattle.std.specs.Prelude.{◌≡◌, ⊤, ℕ, ◌+◌, ◌<◌, ◌≤◌, List, map, Option, Some, None, Result, Ok, Err}
+use Rattle.std.specs.Prelude.{IfErr, IfOk}
 use Rattle.session_io.specs.Settling.{fault_of}
 use Rattle.session_io.specs.declared.fault.ServeFault.{ServeFault}
 use Rattle.session_io.specs.declared.fault.ServeFault.TheVariants as fault
+use Rattle.meter_server.specs.Listening.{HaveReasons}
 use Rattle.meter_server.specs.declared.serving_all.Served.{Served}
 use Rattle.shared_meter.specs.Handed.{MeterPort}
 use Rattle.relay_events.specs.declared.event.Event.{Event}
 use Rattle.relay_events.specs.declared.reply.Reply.{Reply}
+use Rattle.port_threads.specs.Listening.{IsCounted}
 use Rattle.port_threads.specs.Workers.{ReturnsPort}
 use Rattle.turn_lock.specs.declared.call_fault.CallFault.{CallFault}
 use Rattle.turn_lock.specs.declared.turned.Entry.{Entry}
@@ -50,6 +54,29 @@ StopsFor spent failed fault.Listen = failed
 StopsFor spent failed fault.Read = ⊥
 StopsFor spent failed fault.Write = ⊥
 StopsFor spent failed fault.Journal = ⊥
+
+-- What a listener has counted, if it counts: the clients that it accepted, and those of them whose
+-- streams could not be set up.
+pub record Counts : Type 0 where
+  pub accepted : Option ℕ
+  pub setup_failures : Option ℕ
+
+-- the counts of a listener, by the ghost members of its type
+abbrev pub counts_of : {L : Type 0} → (accepted setup_failures : L → Option ℕ) → L → Counts
+counts_of accepted setup_failures listener =
+    record { accepted = accepted listener; setup_failures = setup_failures listener }
+
+-- Whether the result of serving accounts for the clients of a listener. Without a fault the limit
+-- of connections was reached, the listener accepted as many clients as are counted, and each that
+-- was turned away had a reason. A fault has its cause: `spent` for the end of turns, `failed` for
+-- that of the listener.
+pub record Accounts (limit : ℕ) (before after : Counts) (spent failed : Type 0)
+    (result : Result Served ServeFault) : Type 0 where
+  pub limited : IfOk result (IsLimit limit)
+  pub counted : IfOk result
+      (λ all. IsCounted before.accepted (all.served + all.turned_away) after.accepted)
+  pub reasons : IfOk result (λ all. HaveReasons before.setup_failures all after.setup_failures)
+  pub fault : IfErr result (StopsFor spent failed)
 
 -- the fault of a worker: out of memory, so that its work was not started; or a refused call of the
 -- meter

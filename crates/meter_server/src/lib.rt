@@ -13,7 +13,7 @@ pub use listening::{Listener, Observer};
 pub use port_threads::ListenFault;
 pub use ports::{PortMeter, calls_are_entered, serve_port, session_keeps_its_port};
 pub use relay_recorder::Recorder;
-pub use serving_all::{ClientTerms, OwnSources, Served, Sources, serve_all, serve_all_journaled};
+pub use serving_all::{ClientTerms, OwnSources, Served, Sources, serve, serve_all};
 pub use session_core::SessionEnd;
 pub use session_io::{HexFault, Meter, ServeFault, answer_apdu, run_hex, serve_session};
 pub use shared_meter::{BlockSource, ButtonSource, Durability, Kept, MomentSource, NoJournal};

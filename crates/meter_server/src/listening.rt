@@ -2,13 +2,11 @@
 ghost use Rattle.std.specs.Prelude.{◌≡◌, ◌≢◌, ⊤, ℕ, Option, None, Some, is_some};
 ghost use Rattle.std.specs.Prelude.{IfSome, IfNone, IfOk, OnOk, OnErr};
 ghost use Rattle.acse_ber.specs.Password.{IsPassword};
-ghost use Rattle.meter_server.specs.JournaledSessions.{AnswersCalls, client_steps, client_terms};
+ghost use Rattle.meter_server.specs.JournaledSessions.{client_steps, client_terms};
 ghost use Rattle.meter_server.specs.Listening.{setup_failures_in};
-ghost use Rattle.meter_server.specs.Sessions.{AsksThrough};
 ghost use Rattle.port_threads.specs.Listening.{IfReady, RisesBy, setup_failures_of};
 ghost use Rattle.session_io.specs.Serving.{ServesSession};
 ghost use Rattle.session_io.specs.Sides.{input_of, outlets_of};
-ghost use Rattle.turn_lock.specs.Shown.{IsSame};
 
 use crate::journaled::serve_journaled;
 use crate::ports::serve_port;
@@ -95,9 +93,6 @@ fn serve_client<R: Reader, O: Writer, W: Wait, D: Durability>(
           input = input_of R.remaining R.reads R.failures reader.new;
           outlets = outlets_of O.contents O.failures writer.new result.0;
         }) }
-    ensures same { IsSame port result.0 }
-    ensures asks { AsksThrough password.now port result.0 }
-    ensures answers { IfSome journal.now (λ _. AnswersCalls D.is_durable port result.0) }
 {
     match journal {
         Some(journal) => serve_journaled(rt, alloc, reader, writer, port, password, journal),
@@ -118,13 +113,16 @@ pub(crate) struct AcceptedClient<I, O, D> {
 impl<I: Read + Drop + Send, O: Write + Observer + Drop + Send, D: Durability + Send> PortConnection<
     Port<Kept>,
 > for AcceptedClient<I, O, D> {
-    ghost use Rattle.meter_server.specs.JournaledSessions.{HandsBack, client_terms};
+    ghost use Rattle.std.specs.Prelude.{drop};
+    ghost use Rattle.meter_server.specs.JournaledSessions.{client_terms, steps_by};
+    ghost use Rattle.meter_server.specs.Sessions.{ServesClient};
 
     ghost terms = { λ client. client_terms client.journal client.password };
 
     ghost fits = { λ port. D.fits port.lock };
 
-    ghost hands_back = { HandsBack D.is_durable };
+    ghost hands_back = { λ terms. ServesClient I.remaining O.contents
+        (steps_by D.is_durable D.has_ended D.was_running terms) (drop 1 terms) };
 
     fn serve<W: Wait>(self, rt: &W, alloc: Global, port: Port<Kept>) -> Port<Kept> {
         let AcceptedClient {

@@ -1,17 +1,16 @@
 //! The whole server: sessions of clients, blocks of samples, moments and presses on one meter, each
 //! session and source in a thread of its own.
-ghost use Rattle.std.specs.Prelude.{◌≡◌, ◌+◌, ⊤, [], Err, IfOk, IfErr, IfSome};
+ghost use Rattle.std.specs.Prelude.{◌≡◌, ⊤, IfOk};
 ghost use Rattle.acse_ber.specs.Password.{IsPassword};
 ghost use Rattle.shared_meter.specs.Calls.{IsLegal as IsLegalRun};
-ghost use Rattle.meter_server.specs.ServingAll.{Acted, EndsWith, IsLimit, IsServed, IsSpent, StopsFor, OnEnded, worker_fault, first_of};
-ghost use Rattle.meter_server.specs.JournaledSessions.{AreJournaled};
-ghost use Rattle.meter_server.specs.Listening.{HaveReasons};
-ghost use Rattle.meter_server.specs.Sessions.{AreSessions};
-ghost use Rattle.meter_server.specs.WithSources.{Forecasts, ServesWith, first_then};
-ghost use Rattle.shared_meter.specs.Blocks.{AllBlocks};
-ghost use Rattle.shared_meter.specs.Sources.{AllMoments, AllPresses};
-ghost use Rattle.port_threads.specs.Listening.{IsCounted};
-ghost use Rattle.port_threads.specs.Ports.{PortContinues, AreJoined, child};
+ghost use Rattle.meter_server.specs.JournaledSessions.{client_steps};
+ghost use Rattle.meter_server.specs.Ports.{PortSteps};
+ghost use Rattle.meter_server.specs.ServingAll.{Accounts, EndsWith, IsServed, IsSpent, counts_of};
+ghost use Rattle.meter_server.specs.ServingAll.{worker_fault, first_of};
+ghost use Rattle.meter_server.specs.Sessions.{ServesClient};
+ghost use Rattle.meter_server.specs.WithSources.{Forecasts, ServesAll, ServesWith, first_then};
+ghost use Rattle.meter_server.specs.WithSources.{outcome, returned};
+ghost use Rattle.port_threads.specs.Ports.{PortContinues, AreJoined, AreServed};
 ghost use Rattle.turn_lock.specs.Calls.{IsLegal};
 ghost use Rattle.turn_lock.specs.Shown.{IsSame};
 
@@ -138,17 +137,15 @@ fn serve_clients<
     requires fits { D.fits port.old.lock }
     ensures port_continues { PortContinues port.old port.new }
     ensures joined { AreJoined port.old.known.splits port.new }
-    ensures sessions { AreSessions terms.now.password.now port.old.known.splits port.new }
-    ensures journaled { IfSome terms.now.journal
-        (λ _. AreJournaled D.is_durable port.old.known.splits port.new) }
-    ensures limit { IfOk result (IsLimit terms.now.limit) }
-    ensures counted { IfOk result
-        (λ served. IsCounted (L.accepted listener.old) (served.served + served.turned_away)
-        (L.accepted listener.new)) }
-    ensures reasons { IfOk result (λ served. HaveReasons (L.setup_failures listener.old) served
-        (L.setup_failures listener.new)) }
+    ensures sessions { AreServed
+        (ServesClient L.Input.remaining L.Output.contents
+        (client_steps D.is_durable D.has_ended D.was_running terms.now.journal)
+        terms.now.password.now)
+        port.old.known.splits port.new }
     ensures served { IfOk result (IsServed port.old.known.splits port.new.known.splits) }
-    ensures fault { IfErr result (StopsFor ⊥ (L.has_failed listener.new)) }
+    ensures accounts { Accounts terms.now.limit
+        (counts_of L.accepted L.setup_failures listener.old)
+        (counts_of L.accepted L.setup_failures listener.new) ⊥ (L.has_failed listener.new) result }
 {
     let mut clients = Clients {
         listener,
@@ -173,9 +170,9 @@ fn serve_clients<
 
 // Joins in the port of a worker, after the clients that were served in parallel, and returns the
 // first fault of both.
-fn join_both<K: Worker<Port<Kept>>, R: Threads>(
+fn join_both<K: Worker<Port<Kept>, End = Result<(), CallFault>>, R: Threads>(
     rt: &R,
-    running: WorkerThread<Kept, K>,
+    running: WorkerThread<Kept, K, Result<(), CallFault>>,
     port: &mut Port<Kept>,
     served: Result<Served, ServeFault>,
 ) -> Result<Served, ServeFault>
@@ -204,18 +201,16 @@ fn serve_with_one<
 ) -> Result<Served, ServeFault>
     requires password { IsPassword terms.now.password.now }
     requires fits { D.fits port.old.lock }
-    ensures serves { ServesWith terms.now.password.now 1
-        (first_then (S.can_follow source) (λ _ _. ⊤))
+    ensures serves { ServesWith
+        (ServesClient L.Input.remaining L.Output.contents
+        (client_steps D.is_durable D.has_ended D.was_running terms.now.journal)
+        terms.now.password.now)
+        1 (first_then (S.can_follow source) (λ _ _. ⊤))
         port.old port.new result }
-    ensures journaled { IfSome terms.now.journal
-        (λ _. AreJournaled D.is_durable (port.old.known.splits + 1) port.new) }
-    ensures limit { IfOk result (IsLimit terms.now.limit) }
-    ensures counted { IfOk result
-        (λ served. IsCounted (L.accepted listener.old) (served.served + served.turned_away)
-        (L.accepted listener.new)) }
-    ensures reasons { IfOk result (λ served. HaveReasons (L.setup_failures listener.old) served
-        (L.setup_failures listener.new)) }
-    ensures fault { IfErr result (StopsFor (IsSpent port.new) (L.has_failed listener.new)) }
+    ensures accounts { Accounts terms.now.limit
+        (counts_of L.accepted L.setup_failures listener.old)
+        (counts_of L.accepted L.setup_failures listener.new) (IsSpent port.new)
+        (L.has_failed listener.new) result }
 {
     let Some(running) = start_worker(rt, alloc, SourceWorker { source }, port) else {
         listener.on_early_end();
@@ -242,19 +237,17 @@ fn serve_with_two<
 ) -> Result<Served, ServeFault>
     requires password { IsPassword terms.now.password.now }
     requires fits { D.fits port.old.lock }
-    ensures serves { ServesWith terms.now.password.now 2
-        (first_then (S.can_follow sources.0)
+    ensures serves { ServesWith
+        (ServesClient L.Input.remaining L.Output.contents
+        (client_steps D.is_durable D.has_ended D.was_running terms.now.journal)
+        terms.now.password.now)
+        2 (first_then (S.can_follow sources.0)
         (first_then (T.can_follow sources.1) (λ _ _. ⊤)))
         port.old port.new result }
-    ensures journaled { IfSome terms.now.journal
-        (λ _. AreJournaled D.is_durable (port.old.known.splits + 2) port.new) }
-    ensures limit { IfOk result (IsLimit terms.now.limit) }
-    ensures counted { IfOk result
-        (λ served. IsCounted (L.accepted listener.old) (served.served + served.turned_away)
-        (L.accepted listener.new)) }
-    ensures reasons { IfOk result (λ served. HaveReasons (L.setup_failures listener.old) served
-        (L.setup_failures listener.new)) }
-    ensures fault { IfErr result (StopsFor (IsSpent port.new) (L.has_failed listener.new)) }
+    ensures accounts { Accounts terms.now.limit
+        (counts_of L.accepted L.setup_failures listener.old)
+        (counts_of L.accepted L.setup_failures listener.new) (IsSpent port.new)
+        (L.has_failed listener.new) result }
 {
     let (source, other) = sources;
     let Some(running) = start_worker(rt, alloc, SourceWorker { source }, port) else {
@@ -284,20 +277,18 @@ fn serve_with_three<
 ) -> Result<Served, ServeFault>
     requires password { IsPassword terms.now.password.now }
     requires fits { D.fits port.old.lock }
-    ensures serves { ServesWith terms.now.password.now 3
-        (first_then (S.can_follow sources.0)
+    ensures serves { ServesWith
+        (ServesClient L.Input.remaining L.Output.contents
+        (client_steps D.is_durable D.has_ended D.was_running terms.now.journal)
+        terms.now.password.now)
+        3 (first_then (S.can_follow sources.0)
         (first_then (T.can_follow sources.1.0)
         (first_then (U.can_follow sources.1.1) (λ _ _. ⊤))))
         port.old port.new result }
-    ensures journaled { IfSome terms.now.journal
-        (λ _. AreJournaled D.is_durable (port.old.known.splits + 3) port.new) }
-    ensures limit { IfOk result (IsLimit terms.now.limit) }
-    ensures counted { IfOk result
-        (λ served. IsCounted (L.accepted listener.old) (served.served + served.turned_away)
-        (L.accepted listener.new)) }
-    ensures reasons { IfOk result (λ served. HaveReasons (L.setup_failures listener.old) served
-        (L.setup_failures listener.new)) }
-    ensures fault { IfErr result (StopsFor (IsSpent port.new) (L.has_failed listener.new)) }
+    ensures accounts { Accounts terms.now.limit
+        (counts_of L.accepted L.setup_failures listener.old)
+        (counts_of L.accepted L.setup_failures listener.new) (IsSpent port.new)
+        (L.has_failed listener.new) result }
 {
     let (source, others) = sources;
     let Some(running) = start_worker(rt, alloc, SourceWorker { source }, port) else {
@@ -309,80 +300,47 @@ fn serve_with_three<
     join_both(rt, running, port, served)
 }
 
-/// Serves clients on these terms, and passes blocks of samples, moments and presses to one meter as
-/// [`serve_all`] does, with its results and its errors. If the meter has a journal, each session
+/// Serves clients on these terms, and passes the events of a meter's own sources to it, as
+/// [`serve_all`] says, with its results and its errors. If the meter has a journal, each session
 /// has a handle of it, and writes an answer only after the lines of all calls that its port has
-/// seen are on the disk. So all calls of a session's port, except at most the last, were answered
-/// after they were on the disk. Sources do not wait for the journal.
+/// seen are on the disk: each call of its port is a `JournalSteps`. Sources do not wait for the
+/// journal.
 ///
 /// A connection for which no handle of the journal is available is closed without a byte sent,
 /// counted as turned away, and leads to the fault `Memory`. A failure of the journal ends each
 /// session that waits for it or would change the meter, and is not a fault of the server.
-pub fn serve_all_journaled<
+pub fn serve<
     L: Listener,
-    B: BlockSource + Send + 'static,
-    M: MomentSource + Send + 'static,
-    U: ButtonSource + Send + 'static,
+    S: OwnSources,
     D: Durability + Send + 'static,
     R: Threads + Wait + Copy + Send + 'static,
 >(
     rt: &R,
     alloc: Global,
     listener: &mut L,
-    sources: Sources<B, M, U>,
-    mut port: Port<Kept>,
+    sources: S,
+    port: Port<Kept>,
     terms: &ClientTerms<'_, D>,
-) -> Result<(Port<Kept>, Served), (Port<Kept>, ServeFault)>
+) -> (Port<Kept>, Result<Served, ServeFault>)
     requires password { IsPassword terms.now.password.now }
     requires fits { D.fits port.lock }
-    ensures port_continues { IfOk result (λ r. PortContinues port r.0 × IsLegal IsLegalRun r.0.known
-        × AreJoined port.known.splits r.0) }
-    ensures port_continues_err { IfErr result
-        (λ r. PortContinues port r.0 × IsLegal IsLegalRun r.0.known
-        × AreJoined port.known.splits r.0) }
-    ensures sessions { IfOk result (λ r. AreSessions terms.now.password.now
-        (port.known.splits + 3) r.0) }
-    ensures sessions_err { IfErr result (λ r. AreSessions terms.now.password.now
-        (port.known.splits + 3) r.0) }
-    ensures journaled { IfOk result (λ r. IfSome terms.now.journal
-        (λ _. AreJournaled D.is_durable (port.known.splits + 3) r.0)) }
-    ensures journaled_err { IfErr result (λ r. IfSome terms.now.journal
-        (λ _. AreJournaled D.is_durable (port.known.splits + 3) r.0)) }
-    ensures limit { IfOk result (λ r. IsLimit terms.now.limit r.1) }
-    ensures counted { IfOk result
-        (λ r. IsCounted (L.accepted listener.old) (r.1.served + r.1.turned_away)
-        (L.accepted listener.new)) }
-    ensures reasons { IfOk result (λ r. HaveReasons (L.setup_failures listener.old) r.1
-        (L.setup_failures listener.new)) }
-    ensures served { IfOk result (λ r. IsServed (port.known.splits + 3) r.0.known.splits r.1) }
-    ensures blocks { IfOk result
-        (λ r. Acted r.0 (child port.known.number port.known.splits)
-        (AllBlocks (B.forecast sources.blocks))) }
-    ensures moments { IfOk result
-        (λ r. Acted r.0 (child port.known.number (port.known.splits + 1))
-        (AllMoments (M.forecast sources.moments))) }
-    ensures presses { IfOk result
-        (λ r. Acted r.0 (child port.known.number (port.known.splits + 2))
-        (AllPresses (U.forecast sources.buttons))) }
-    ensures fault { IfErr result (λ r. StopsFor (IsSpent r.0) (L.has_failed listener.new) r.1) }
-    ensures blocks_err { IfErr result
-        (λ r. OnEnded (Err r.1)
-        (Acted r.0 (child port.known.number port.known.splits)
-        (AllBlocks (B.forecast sources.blocks)))) }
-    ensures moments_err { IfErr result
-        (λ r. OnEnded (Err r.1)
-        (Acted r.0 (child port.known.number (port.known.splits + 1))
-        (AllMoments (M.forecast sources.moments)))) }
-    ensures presses_err { IfErr result
-        (λ r. OnEnded (Err r.1)
-        (Acted r.0 (child port.known.number (port.known.splits + 2))
-        (AllPresses (U.forecast sources.buttons)))) }
+    ensures lawful { IsLegal IsLegalRun result.0.known }
+    ensures serves { ServesAll
+        (ServesClient L.Input.remaining L.Output.contents
+        (client_steps D.is_durable D.has_ended D.was_running terms.now.journal)
+        terms.now.password.now)
+        (S.forecasts sources) port result.0 result.1 }
+    ensures accounts { Accounts terms.now.limit
+        (counts_of L.accepted L.setup_failures listener.old)
+        (counts_of L.accepted L.setup_failures listener.new) (IsSpent result.0)
+        (L.has_failed listener.new) result.1 }
 {
+    let mut port = port;
     let Sources {
         blocks,
         moments,
         buttons,
-    } = sources;
+    } = sources.into_sources();
     let blocks = BlockEvents::new(blocks);
     let moments = MomentEvents { source: moments };
     let presses = PressEvents { source: buttons };
@@ -390,10 +348,7 @@ pub fn serve_all_journaled<
     let served = serve_with_three(rt, alloc, listener, events, &mut port, terms);
     // (no effect: the contract needs this law)
     port.history_is_legal();
-    match served {
-        Ok(served) => Ok((port, served)),
-        Err(fault) => Err((port, fault)),
-    }
+    (port, served)
 }
 
 /// Serves clients, and passes blocks of samples, moments and presses to one meter: in a thread for
@@ -409,9 +364,10 @@ pub fn serve_all_journaled<
 /// before, and every port that was split off is joined in. After `Ok` all events that a source
 /// declared were passed on, in order: the blocks by the first of these ports, with reads of the
 /// thresholds between them, the moments by the second and the presses by the third. In every case
-/// each further port made the calls of one session with this password. After `Ok` the listener
-/// accepted as many clients as are counted, unless the count reached `u64::MAX`; and if fewer than
-/// eight were served, those turned away are the ones whose streams could not be set up.
+/// each further port made the calls of one session, which read a client's bytes and wrote the
+/// answers to it. After `Ok` the listener accepted as many clients as are counted, unless the count
+/// reached `u64::MAX`; and if fewer than eight were served, those turned away are the ones whose
+/// streams could not be set up.
 ///
 /// Returns the first of these faults, and no other. `Memory`: the memory for eight sessions could
 /// not be allocated, or no port, thread or copy of the password was available for a worker or a
@@ -437,53 +393,33 @@ pub fn serve_all<
     limit: u64,
 ) -> Result<(Port<Kept>, Served), (Port<Kept>, ServeFault)>
     requires { IsPassword password.now }
-    ensures port_continues { IfOk result (λ r. PortContinues port r.0 × IsLegal IsLegalRun r.0.known
-        × AreJoined port.known.splits r.0) }
-    ensures port_continues_err { IfErr result
-        (λ r. PortContinues port r.0 × IsLegal IsLegalRun r.0.known
-        × AreJoined port.known.splits r.0) }
-    ensures sessions { IfOk result (λ r. AreSessions password.now (port.known.splits + 3) r.0) }
-    ensures sessions_err { IfErr result (λ r. AreSessions password.now
-        (port.known.splits + 3) r.0) }
-    ensures limit { IfOk result (λ r. IsLimit limit r.1) }
-    ensures counted { IfOk result
-        (λ r. IsCounted (L.accepted listener.old) (r.1.served + r.1.turned_away)
-        (L.accepted listener.new)) }
-    ensures reasons { IfOk result (λ r. HaveReasons (L.setup_failures listener.old) r.1
-        (L.setup_failures listener.new)) }
-    ensures served { IfOk result (λ r. IsServed (port.known.splits + 3) r.0.known.splits r.1) }
-    ensures blocks { IfOk result
-        (λ r. Acted r.0 (child port.known.number port.known.splits)
-        (AllBlocks (B.forecast blocks))) }
-    ensures moments { IfOk result
-        (λ r. Acted r.0 (child port.known.number (port.known.splits + 1))
-        (AllMoments (M.forecast moments))) }
-    ensures presses { IfOk result
-        (λ r. Acted r.0 (child port.known.number (port.known.splits + 2))
-        (AllPresses (U.forecast buttons))) }
-    ensures fault { IfErr result (λ r. StopsFor (IsSpent r.0) (L.has_failed listener.new) r.1) }
-    ensures blocks_err { IfErr result
-        (λ r. OnEnded (Err r.1)
-        (Acted r.0 (child port.known.number port.known.splits) (AllBlocks (B.forecast blocks)))) }
-    ensures moments_err { IfErr result
-        (λ r. OnEnded (Err r.1)
-        (Acted r.0 (child port.known.number (port.known.splits + 1))
-        (AllMoments (M.forecast moments)))) }
-    ensures presses_err { IfErr result
-        (λ r. OnEnded (Err r.1)
-        (Acted r.0 (child port.known.number (port.known.splits + 2))
-        (AllPresses (U.forecast buttons)))) }
+    ensures lawful { IsLegal IsLegalRun (returned result).known }
+    ensures serves { ServesAll
+        (ServesClient L.Input.remaining L.Output.contents PortSteps password.now)
+        (record {
+          blocks = B.forecast blocks;
+          moments = M.forecast moments;
+          presses = U.forecast buttons;
+        })
+        port (returned result) (outcome result) }
+    ensures accounts { Accounts limit
+        (counts_of L.accepted L.setup_failures listener.old)
+        (counts_of L.accepted L.setup_failures listener.new) (IsSpent (returned result))
+        (L.has_failed listener.new) (outcome result) }
 {
     let sources = Sources {
         blocks,
         moments,
         buttons,
     };
-    let journal: Option<NoJournal> = None;
-    let terms = ClientTerms {
+    let terms: ClientTerms<'_, NoJournal> = ClientTerms {
         password,
         limit,
-        journal,
+        journal: None,
     };
-    serve_all_journaled(rt, alloc, listener, sources, port, &terms)
+    let (port, served) = serve(rt, alloc, listener, sources, port, &terms);
+    match served {
+        Ok(served) => Ok((port, served)),
+        Err(fault) => Err((port, fault)),
+    }
 }

@@ -16,6 +16,8 @@ impl<S: EventSource + Send> Worker<Port<Kept>> for SourceWorker<S> {
     ghost use Rattle.turn_lock.specs.Shown.{IsSame};
     ghost use Rattle.shared_meter.specs.Handed.{PassesAll, StopsFor};
 
+    type End = Result<(), CallFault>;
+
     ghost did = { λ worker p q end. IsSame p q
         × OnOk end (PassesAll (S.can_follow worker.source) p q)
         × IfErr end (StopsFor q) };

@@ -1,49 +1,10 @@
 use denote.Param.Send.{sendable}
-use Rattle.std.proofs.Common.{arith}
 use Rattle.std.proofs.Crossing.{crosses}
 use Rattle.shared_meter.proofs.Sent.{kept_send}
 use Rattle.session_io.proofs.Sent.{event_send, reply_send}
-use Rattle.meter_server.proofs.ServingAllLemmas.{journaled_beside, ok_beside, serves_beside}
-use Rattle.meter_server.proofs.ServingAllLemmas.{serves_none, stops_beside}
-use Rattle.meter_server.proofs.SessionLemmas.{no_journaled}
+use Rattle.meter_server.proofs.ServingAllLemmas.{accounts_beside, accounts_none, serves_beside}
+use Rattle.meter_server.proofs.ServingAllLemmas.{serves_none}
 use Rattle.meter_server.proofs.serving_all.serve_with_two.Goals as goal
-
-pub returns-clause-serves : goal.returns-clause-serves
-returns-clause-serves g c =
-    serves_beside (λ w. g.S.EventSource.can_follow w.source) c.in-Some.ensures.worker
-    c.in-Some.ensures.port c.join_both.ensures c.serve_with_one-served.ensures.serves
-
-pub returns-clause-journaled : goal.returns-clause-journaled
-returns-clause-journaled g c =
-    journaled_beside (λ w. g.S.EventSource.can_follow w.source)
-    c.in-Some.running.promise.worker.value c.in-Some.ensures.port c.join_both.ensures
-    c.args.terms.now.journal g.D.Durability.is_durable 1
-    c.serve_with_one-served.ensures.serves.joined c.serve_with_one-served.ensures.journaled
-
-pub returns-in_default-clause-journaled : goal.returns-in_default-clause-journaled
-returns-in_default-clause-journaled g c =
-    no_journaled c.args.terms.now.journal g.D.Durability.is_durable _
-    c.start_worker.new.port (omega (arith, c.in_default.ensures.within_one))
-
-pub returns-clause-limit : goal.returns-clause-limit
-returns-clause-limit g c = ok_beside c.join_both.ensures _ c.serve_with_one-served.ensures.limit
-
-pub returns-clause-counted : goal.returns-clause-counted
-returns-clause-counted g c = ok_beside c.join_both.ensures _ c.serve_with_one-served.ensures.counted
-
-pub returns-clause-reasons : goal.returns-clause-reasons
-returns-clause-reasons g c = ok_beside c.join_both.ensures _ c.serve_with_one-served.ensures.reasons
-
-pub returns-clause-fault : goal.returns-clause-fault
-returns-clause-fault g c =
-    stops_beside (λ w. g.S.EventSource.can_follow w.source) c.in-Some.running.promise.worker.value
-    c.in-Some.ensures.port c.join_both.ensures _ _ c.serve_with_one-served.ensures.serves.goes
-    c.serve_with_one-served.ensures.fault (λ spent. spent)
-
-pub returns-in_default-clause-serves : goal.returns-in_default-clause-serves
-returns-in_default-clause-serves g c =
-    serves_none _ 1 _ _ _ c.in_default.ensures.none.0 c.in_default.ensures.none.1
-    c.in_default.ensures.within_one
 
 pub start_worker-requires-send-T : goal.start_worker-requires-send-T
 start_worker-requires-send-T g c κs within =
@@ -56,3 +17,23 @@ start_worker-requires-send-T-Event g c κs within =
 pub start_worker-requires-send-T-Reply : goal.start_worker-requires-send-T-Reply
 start_worker-requires-send-T-Reply g c κs within =
     search (sendable, crosses, reply_send) depth 20 fits 100000
+
+pub returns-clause-serves : goal.returns-clause-serves
+returns-clause-serves g c =
+    serves_beside (λ w. g.S.EventSource.can_follow w.source) c.in-Some.ensures.worker
+    c.in-Some.ensures.port c.join_both.ensures c.serve_with_one-served.ensures.serves
+
+pub returns-clause-accounts : goal.returns-clause-accounts
+returns-clause-accounts g c =
+    let done = c.serve_with_one-served.ensures in
+    accounts_beside (λ w. g.S.EventSource.can_follow w.source)
+    c.in-Some.running.promise.worker.value c.in-Some.ensures.port c.join_both.ensures _ _ _ _ _
+    done.serves.goes done.accounts (λ spent. spent)
+
+pub returns-in_default-clause-serves : goal.returns-in_default-clause-serves
+returns-in_default-clause-serves g c =
+    serves_none _ 1 _ _ _ c.in_default.ensures.none.0 c.in_default.ensures.none.1
+    c.in_default.ensures.within_one
+
+pub returns-in_default-clause-accounts : goal.returns-in_default-clause-accounts
+returns-in_default-clause-accounts g c = accounts_none _ _ _ _ _
