@@ -11,12 +11,10 @@ use Rattle.durable_lines.specs.CrashModel.{LeavesOnly}
 use Rattle.durable_lines.specs.Holding.{Holds}
 use Rattle.durable_lines.specs.Lines.{lines_in}
 use Rattle.relay_core.specs.declared.opening.Opening.{Opening}
-use Rattle.meter_journal.specs.Faults.{FailsFor, HasFileFailed}
+use Rattle.meter_journal.specs.Faults.{FailsFor}
 use Rattle.meter_journal.specs.declared.fault.JournalFault.{JournalFault}
 use Rattle.turn_lock.specs.Calls.{Watches}
 use Rattle.turn_lock.specs.Shown.{IsSame}
-use Rattle.turn_lock.specs.declared.call_fault.CallFault.{CallFault}
-use Rattle.turn_lock.specs.declared.call_fault.CallFault.TheVariants.{Journal}
 use Rattle.shared_meter.specs.Calls.{Calls, IsLegal}
 use Rattle.shared_meter.specs.Handed.{MeterPort}
 use Rattle.shared_meter.specs.Pending.{lines_of_calls}
@@ -66,30 +64,28 @@ pub record IsStored (Renews : List ℕ → List ℕ → Type 0) (stored : List �
 pub record Leaves {F : Type 0} (identity : F → ℕ) (seen : F → List ℕ)
     (may_leave : F → List ℕ → Type 0) (moment : F → ℕ) (left_since : F → ℕ → List ℕ → Type 0)
     (Renews : List ℕ → List ℕ → Type 0)
-    (began ended : F) (calls : Calls) (end : Result (Unit {0}) CallFault) : Type 0 where
+    (began ended : F) (calls : Calls) (end : Result (Unit {0}) JournalFault) : Type 0 where
   pub one_file : identity ended ≡ identity began
   pub any_moment : LeavesOnly moment left_since began ended
       (IsSavedFrom Renews 0 (lines_in (seen began)) calls)
   pub all : OnOk end
       ((c : List ℕ) → may_leave ended c → IsAllSaved Renews (lines_in (seen began)) calls c)
 
--- Whether the journal's worker, whose port was p and is q, ended with this result and made no call.
--- It ended without a fault only if the journal may end, which it learns by being asked to stop. Its
--- only fault is that of the journal. Then the action for failures was called with the fault of a
--- save: with `Turns` only if q has read that all turns were drawn, and with `Failed` only if the
--- file has failed. The file was `began`, and is left as `Leaves` states if files of its type act as
--- the crash model has them.
+-- Whether the journal's worker, whose port was p and is q, ended with this file and this result, and
+-- made no call. It ended without a fault only if the journal may end, which it learns by being asked
+-- to stop. Its fault is that of a save: `Turns` only if q has read that all turns were drawn, and
+-- `Failed` only if the file has failed; the action for failures was called with it. The file was
+-- `began`, and is left as `Leaves` states if files of its type act as the crash model has them.
 pub record Keeps {F : Type 0} (acts : Type 0) (identity : F → ℕ) (seen : F → List ℕ)
     (may_leave : F → List ℕ → Type 0) (moment : F → ℕ) (left_since : F → ℕ → List ℕ → Type 0)
     (Renews : List ℕ → List ℕ → Type 0) (has_failed : F → Type 0) (MayEnd : Type 0)
     (HasActed : JournalFault → Type 0) (began : F) (p q : MeterPort)
-    (end : Result (Unit {0}) CallFault) : Type 0 where
+    (end : F × Result (Unit {0}) JournalFault) : Type 0 where
   pub same : IsSame p q
   pub watches : Watches IsLegal p.known q.known
-  pub may_end : OnOk end MayEnd
-  pub fault : IfErr end (λ fault. fault ≡ Journal)
-  pub acted : IfErr end (λ fault. (why : JournalFault) × HasActed why
-      × FailsFor (q.bound ≤ q.known.drawn) (HasFileFailed has_failed identity (identity began))
-      why)
-  pub leaves : acts → (ended : F)
-      × Leaves identity seen may_leave moment left_since Renews began ended q.known.seen end
+  pub one_file : identity end.0 ≡ identity began
+  pub may_end : OnOk end.1 MayEnd
+  pub acted : IfErr end.1 HasActed
+  pub cause : IfErr end.1 (FailsFor (q.bound ≤ q.known.drawn) (has_failed end.0))
+  pub leaves : acts
+      → Leaves identity seen may_leave moment left_since Renews began end.0 q.known.seen end.1

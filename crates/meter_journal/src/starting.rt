@@ -4,6 +4,7 @@ ghost use Rattle.port_threads.specs.Ports.{AreJoined, PortContinues, SplitsOff};
 ghost use Rattle.port_threads.specs.Workers.{ReturnsPort};
 ghost use Rattle.meter_journal.specs.Saving.{Keeps};
 
+use crate::fault::JournalFault;
 use crate::last_save::JournalIdentity;
 use crate::progress::JournalProgress;
 use crate::worker::{FailureAction, JournalWorker};
@@ -13,10 +14,14 @@ use shared_meter::Kept;
 use std::alloc::Global;
 use std::sync::Wait;
 use std::thread::Threads;
-use turn_lock::{CallFault, Port};
+use turn_lock::Port;
 
 /// The handle of a running journal's thread.
-pub type JournalThread<F, A, L> = WorkerThread<Kept, JournalWorker<F, A, L>>;
+pub type JournalThread<F, A, L> = WorkerThread<
+    Kept,
+    JournalWorker<F, A, L>,
+    (F, Result<(), JournalFault>),
+>;
 
 /// Starts a thread for the worker of a journal, with a port split off from this one. Returns `None`
 /// if no memory, port or thread is available; the worker is dropped with its file, the end of the
@@ -51,8 +56,8 @@ pub fn start_journal<
 }
 
 /// Asks the worker of a journal to save the lines that have been noted, waits for its end, and
-/// joins its port in. Returns `None` if its work was not started, and `Err(Journal)` if the journal
-/// has failed.
+/// joins its port in. Returns the file and the fault of the journal, if it has failed, or `None` if
+/// the work was not started.
 pub fn stop_journal<
     F: DurableFile + Send,
     A: FailureAction,
@@ -63,7 +68,7 @@ pub fn stop_journal<
     running: JournalThread<F, A, L>,
     progress: &JournalProgress<F, L>,
     port: &mut Port<Kept>,
-) -> Option<Result<(), CallFault>>
+) -> Option<(F, Result<(), JournalFault>)>
     requires lock { running.promise.port.value.lock ≡ port.old.lock }
     requires may_end { L.may_end }
     ensures { let task = running.promise

@@ -15,7 +15,7 @@ use shared_meter::{Durability, Kept};
 use std::alloc::{AllocError, Global};
 use std::marker::Model;
 use std::sync::Wait;
-use turn_lock::{CallFault, Port};
+use turn_lock::Port;
 
 /// What is done when a journal fails, such as to stop the server.
 pub trait FailureAction: Drop + Send {
@@ -87,17 +87,19 @@ impl<F: DurableFile + Send, A: FailureAction, L: JournalIdentity + Send + Sync> 
 
     ghost fits = { λ port. port.lock ≡ L.lock };
 
+    type End = (F, Result<(), JournalFault>);
+
     ghost did = { λ worker p q end. Keeps F.acts_as_file F.identity F.seen F.may_leave F.moment
         F.left_since
         F.renews F.has_failed L.may_end A.has_acted worker p q end };
 
-    /// Saves lines until the journal is stopped. The only error is `Journal`, if a save failed.
+    /// Saves lines until the journal is stopped, and returns the file. The error is that of a save.
     fn work<W: Wait>(
         self,
         rt: &W,
         alloc: Global,
         port: Port<Kept>,
-    ) -> (Port<Kept>, Result<(), CallFault>) {
+    ) -> (Port<Kept>, (F, Result<(), JournalFault>)) {
         let JournalWorker {
             mut file,
             progress,
@@ -108,12 +110,12 @@ impl<F: DurableFile + Send, A: FailureAction, L: JournalIdentity + Send + Sync> 
         match keep_lines(rt, alloc, &mut port, &mut file, &progress, room) {
             Ok(()) => {
                 progress.end();
-                (port, Ok(()))
+                (port, (file, Ok(())))
             }
             Err(fault) => {
                 progress.fail(fault);
                 on_failure.act(fault);
-                (port, Err(CallFault::Journal))
+                (port, (file, Err(fault)))
             }
         }
     }
