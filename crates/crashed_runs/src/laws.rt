@@ -1,6 +1,7 @@
 //! The laws of runs that a crash ends.
-ghost use Rattle.std.specs.Prelude.{◌≡◌, ◌≤◌, ℕ, IfOk, List, Ok, Result, length};
-ghost use Rattle.crashed_runs.specs.Answers.{ContinuesAnswers, HasAnsweredLines};
+ghost use Rattle.std.specs.Prelude.{◌≡◌, ◌≤◌, ℕ, IfOk, List, Ok, Option, Result, Some, length};
+ghost use Rattle.crashed_runs.specs.Answers.{AnswerSessions, ContinuesAnswers};
+ghost use Rattle.crashed_runs.specs.Answers.{HasAnsweredLines};
 ghost use Rattle.crashed_runs.specs.Fronts.{ContinuesFront, run_events};
 ghost use Rattle.crashed_runs.specs.Saves.{AreSaves, ContinuesAnswered, IsSave, Stand};
 ghost use Rattle.crashed_runs.specs.Saves.{count_after};
@@ -11,8 +12,8 @@ ghost use Rattle.journal_files.specs.Renewals.{IsRenewedAs};
 ghost use Rattle.meter_journal.specs.Saving.{IsSaved, IsSavedFrom};
 ghost use Rattle.meter_journal.specs.declared.fault.JournalFault.{JournalFault};
 ghost use Rattle.meter_journal.specs.declared.saving.Saved.{Saved};
-ghost use Rattle.meter_run.specs.Journaled.{IsJournaledRun};
-ghost use Rattle.meter_run.specs.Runs.{Given};
+ghost use Rattle.meter_run.specs.Journaled.{AnyEnd, IsOnDisk, IsRun};
+ghost use Rattle.meter_server.specs.WithSources.{Forecasts};
 ghost use Rattle.meter_server.specs.declared.serving_all.Served.{Served};
 ghost use Rattle.program.specs.declared.fault.Fault.{Fault};
 ghost use Rattle.relay_recorder.specs.Recording.{Recording};
@@ -32,6 +33,7 @@ use durable_lines::DurableFile;
 use meter_journal::{JournalFault, Saved, save};
 use shared_meter::Kept;
 use std::alloc::Global;
+use std::io::{Read, Write};
 use std::sync::Wait;
 use turn_lock::Port;
 
@@ -49,28 +51,48 @@ pub fn crashed_run_is_resumed()
         → ContinuesFront from calls (world_of trace) (world_of resumed.trace) }
 {}
 
+/// Proves that in a run with a journal each session's calls, all but at most the last one, were
+/// answered from a front of the run's own history, once the lines of that front were on the disk: a
+/// sync of the run's own file had returned while it held the lines that it had first, followed by
+/// at least these lines of the same history.
+pub fn sessions_of_a_run_are_answered<F: DurableFile, I: Read, O: Write>()
+    ensures { (file : F) (recorder : Recording) (password : List ℕ)
+        (sources : Forecasts) (served : Result Served ServeFault)
+        (journal : Result (Unit {0}) Fault) (ended : Option F) (text : List ℕ)
+        → (run : IsRun F.acts_as_file F.identity F.seen F.may_leave F.moment F.left_since F.stored
+        F.renews I.remaining O.contents AnyEnd (Some file) recorder password sources served
+        journal ended text)
+        → AnswerSessions (IsOnDisk F.acts_as_file F.identity F.seen F.may_leave F.moment
+        F.left_since F.stored F.renews file) run.run.of_run.ports run.run.calls }
+{}
+
 /// Proves that a crash undoes no answer. A run with a journal was made on a file that acts as the
-/// crash model says, and a crash at any moment of it left these bytes. They hold the first lines of
-/// the run, at least the lines of each front of its history from which a session was answered. A
-/// meter that is resumed from them answers as the one that made the first calls of the run, and
-/// these include each answered call of each session that may change the meter.
+/// crash model says and was returned as `ended`, and a crash at any moment of it left these bytes.
+/// They hold the first lines of the run, at least the lines of each front of its history from which
+/// a session was answered. A meter that is resumed from them answers as the one that made the first
+/// calls of the run, and these include each answered call of each session that may change the
+/// meter.
 ///
-/// That the crash left as many lines is a premise: `IsJournaledRun` says that they were on the disk
-/// when the answer was written, and the crash model that a crash leaves what was synced.
-pub fn answered_calls_are_resumed<F: DurableFile>()
-    ensures { (file : F) (recorder : Recording) (given : Given)
-        (served : Result Served ServeFault) (journal : Result (Unit {0}) Fault) (text : List ℕ)
-        → (run : IsJournaledRun F.acts_as_file F.identity F.seen F.may_leave F.moment F.left_since
-        F.stored
-        IsRenewedAs file recorder given served journal text)
+/// That the crash left as many lines is a premise: `sessions_of_a_run_are_answered` says that they
+/// were on the disk when the answer was written, and the crash model that a crash leaves what was
+/// synced.
+pub fn answered_calls_are_resumed<F: DurableFile, I: Read, O: Write>()
+    ensures { (file ended : F) (recorder : Recording) (password : List ℕ)
+        (sources : Forecasts) (served : Result Served ServeFault)
+        (journal : Result (Unit {0}) Fault) (text : List ℕ)
+        → (run : IsRun F.acts_as_file F.identity F.seen F.may_leave F.moment F.left_since F.stored
+        IsRenewedAs I.remaining O.contents AnyEnd (Some file) recorder password sources served
+        journal (Some ended) text)
+        → (sessions : AnswerSessions (IsOnDisk F.acts_as_file F.identity F.seen F.may_leave F.moment
+        F.left_since F.stored IsRenewedAs file) run.run.of_run.ports run.run.calls)
         → (acts : F.acts_as_file) → (left : List ℕ)
-        → (crash : F.left_since (run.kept acts).0 (F.moment file) left)
-        → HasAnsweredLines run.journaled ((run.kept acts).2.each left crash).0
+        → (crash : F.left_since ended (F.moment file) left)
+        → HasAnsweredLines sessions ((run.kept acts).any_moment.each left crash).0
         → (device : List ℕ) (trace : Trace) (after : Recording)
         → IsText (F.seen file) → IsJournal (F.seen file) → trace_of (F.seen file) ≡ Ok trace
         → AreTraced (changing (run_events run.run.calls))
         → (resumed : Continues device left after)
-        → ContinuesAnswers run.journaled ((run.kept acts).2.each left crash).0 (world_of trace)
+        → ContinuesAnswers sessions ((run.kept acts).any_moment.each left crash).0 (world_of trace)
         (world_of resumed.trace) }
 {}
 

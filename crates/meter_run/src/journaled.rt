@@ -1,33 +1,32 @@
-//! `run_journaled_meter`: one run of a meter whose events are on the disk before they are answered.
-ghost use Rattle.std.specs.Prelude.{◌≡◌, ◌⊎◌, ⊤, ◌+◌, [], Err, IfOk, IfErr, IsErrOf, IfSome};
+//! A run with a journal: each event is on the disk before it is answered.
+ghost use Rattle.std.specs.Prelude.{◌≡◌, ◌⊎◌, ⊤, ◌+◌, [], Err, Some, IfOk, IfErr, IsErrOf, IfSome};
 ghost use Rattle.acse_ber.specs.Password.{IsPassword};
-ghost use Rattle.durable_lines.specs.CrashModel.{LeavesOnly};
 ghost use Rattle.durable_lines.specs.Lines.{lines_in, IsSettled};
-ghost use Rattle.meter_journal.specs.Faults.{FailsFor, HasFileFailed, IsSaveFault};
-ghost use Rattle.meter_journal.specs.Saving.{IsFileOf, IsSavedFrom, Keeps};
+ghost use Rattle.meter_journal.specs.Faults.{EndsFor, IsSaveFault};
+ghost use Rattle.meter_journal.specs.Saving.{IsFileOf, IsSynced, Keeps};
 ghost use Rattle.meter_journal.specs.declared.fault.JournalFault.{JournalFault};
-ghost use Rattle.meter_run.specs.Journaled.{IsFinished, IsJournaledRun, IsStarted};
-ghost use Rattle.meter_run.specs.Journaled.{ActsOnFailure, fault_of_journal};
+ghost use Rattle.meter_run.specs.Journaled.{AnyEnd, CanFail, IsFinished, IsRun, IsStarted};
+ghost use Rattle.meter_run.specs.Journaled.{session_steps};
+ghost use Rattle.meter_run.specs.Journaled.{ActsOnFailure, fault_of_journal, file_of_journal};
 ghost use Rattle.meter_run.specs.Runs.{IsLeftOpen};
-ghost use Rattle.meter_server.specs.Listening.{HaveReasons};
-ghost use Rattle.meter_server.specs.ServingAll.{IsLimit, StopsFor};
-ghost use Rattle.port_threads.specs.Listening.{IsCounted};
+ghost use Rattle.meter_server.specs.Journaled.{JournalSteps};
+ghost use Rattle.meter_server.specs.ServingAll.{Accounts, counts_of};
+ghost use Rattle.meter_server.specs.Sessions.{ServesClient};
 ghost use Rattle.program.specs.declared.fault.Fault.TheVariants.{Memory, Turns, Write};
 ghost use Rattle.session_io.specs.declared.fault.ServeFault.TheVariants as fault;
 ghost use Rattle.relay_core.specs.Opening.{opening_of};
 ghost use Rattle.relay_core.specs.declared.opening.Opening.{Opening};
 ghost use Rattle.relay_recorder.specs.Recording.{Recording};
-ghost use Rattle.shared_meter.specs.Calls.{Calls};
 ghost use Rattle.turn_lock.specs.Rule.{first_known};
 
-use crate::running::{close_and_export, lock, serve};
+use crate::running::{MeterRun, RunTerms, close_and_export, lock, no_run};
 use cosem_axdr::Octets;
 use durable_lines::DurableFile;
 use meter_journal::{
-    FailureAction, JournalIdentity, JournalProgress, JournalThread, JournalWorker, start_journal,
-    stop_journal,
+    FailureAction, JournalFault, JournalIdentity, JournalProgress, JournalThread, JournalWorker,
+    start_journal, stop_journal,
 };
-use meter_server::{ClientTerms, Listener, OwnSources, ServeFault, Served};
+use meter_server::{ClientTerms, Listener, OwnSources, serve};
 use program::Fault;
 use relay_recorder::Recorder;
 use shared_meter::{Durability, Kept, PendingLines};
@@ -35,7 +34,7 @@ use std::alloc::{AllocError, Global};
 use std::marker::Brand;
 use std::sync::Wait;
 use std::thread::Threads;
-use turn_lock::{CallFault, Port, Shared};
+use turn_lock::{Port, Shared};
 
 // The memory for the text of the lines that wait for a sync, and for those that are being written,
 // in bytes each. More is allocated if it does not suffice.
@@ -48,27 +47,6 @@ pub struct MeterJournal<F: DurableFile, A: FailureAction> {
     pub file: F,
     /// What is done if the journal fails, such as to end the listening.
     pub on_failure: A,
-}
-
-/// How a run with a journal ended.
-#[derive(Drop)]
-pub struct JournaledRun {
-    /// The number of connections that were served and turned away, or why the server stopped.
-    pub served: Result<Served, ServeFault>,
-    /// The text of the trace. Errors: `Turns` if a call was still in its turn; `Memory`.
-    pub trace: Result<Octets, Fault>,
-    /// Whether each line of the run is on the disk. Errors: `Write` if the journal failed;
-    /// `Memory` if it was not started.
-    pub journal: Result<(), Fault>,
-}
-
-/// The terms on which the clients of a run are served.
-#[derive(Clone, Copy)]
-pub struct RunTerms<'a> {
-    /// The password of the management client, 1 to 32 bytes.
-    pub password: &'a Octets,
-    /// The number of connections to accept; 0 means no limit.
-    pub limit: u64,
 }
 
 // A meter in its lock, and the running worker of its journal.
@@ -151,27 +129,19 @@ fn start<
     })
 }
 
-// Returns the fault of a journal by the end of its worker.
-fn journal_fault(end: Option<Result<(), CallFault>>) -> Result<(), Fault>
-    ensures fault { result ≡ fault_of_journal end }
-    ensures err { IfErr result (λ fault. (fault ≡ Write) ⊎ (fault ≡ Memory)) }
+// Returns the fault of a journal by the end of its worker, and its file.
+fn journal_end<F: Drop>(
+    end: Option<(F, Result<(), JournalFault>)>,
+) -> (Result<(), Fault>, Option<F>)
+    ensures fault { result.0 ≡ fault_of_journal end }
+    ensures file { result.1 ≡ file_of_journal end }
+    ensures err { IfErr result.0 (λ fault. (fault ≡ Write) ⊎ (fault ≡ Memory)) }
 {
     match end {
-        Some(Ok(())) => Ok(()),
-        Some(Err(_)) => Err(Fault::Write),
-        None => Err(Fault::Memory),
+        Some((file, Ok(()))) => (Ok(()), Some(file)),
+        Some((file, Err(_))) => (Err(Fault::Write), Some(file)),
+        None => (Err(Fault::Memory), None),
     }
-}
-
-// Proves that a crash leaves the lines of a file of which all are on the disk. Does nothing at
-// run time.
-fn file_is_idle<F: DurableFile>(file: &F)
-    requires { F.acts_as_file → IsSettled F.seen F.may_leave F.identity F.stored file.now }
-    ensures { F.acts_as_file → (calls : Calls)
-        → LeavesOnly F.moment F.left_since file.now file.now
-        (IsSavedFrom F.renews 0 (lines_in (F.seen file.now)) calls) }
-{
-    let _file = file;
 }
 
 // Stops the journal once it has written all lines, closes the lock, and writes the trace.
@@ -182,37 +152,25 @@ fn finish<F: DurableFile + Send, A: FailureAction, L: JournalIdentity + Send + S
     mut port: Port<Kept>,
     progress: JournalProgress<F, L>,
     running: JournalThread<F, A, L>,
-) -> (Result<Octets, Fault>, Result<(), Fault>)
+) -> (Result<Octets, Fault>, Result<(), Fault>, Option<F>)
     requires lock { port.lock ≡ shared }
     requires lent { running.promise.port.value.lock ≡ port.lock }
     requires may_end { L.may_end }
     ensures finished { let task = running.promise
         in IsFinished (Keeps F.acts_as_file F.identity F.seen F.may_leave F.moment F.left_since
         F.renews F.has_failed L.may_end A.has_acted task.worker.value)
-        task.port.value port result.0 result.1 }
+        task.port.value port result.0 result.1 result.2 }
     ensures err { IfErr result.0 (λ fault. (fault ≡ Turns) ⊎ (fault ≡ Memory)) }
     ensures journal { IfErr result.1 (λ fault. (fault ≡ Write) ⊎ (fault ≡ Memory)) }
 {
     let end = stop_journal(rt, running, &progress, &mut port);
     drop(progress);
-    (close_and_export(alloc, shared, port), journal_fault(end))
+    let (journal, file) = journal_end(end);
+    (close_and_export(alloc, shared, port), journal, file)
 }
 
-// What a run returns for which no lock, journal, port or thread is available.
-fn no_run() -> JournaledRun
-    ensures served { result.served ≡ Err fault.Memory }
-    ensures trace { result.trace ≡ Err Memory }
-    ensures journal { result.journal ≡ Err Memory }
-{
-    JournaledRun {
-        served: Err(ServeFault::Memory),
-        trace: Err(Fault::Memory),
-        journal: Err(Fault::Memory),
-    }
-}
-
-// Runs a meter with a journal that is in its lock already, as `run_journaled_meter` does. `K` is
-// that lock, and the file of the journal.
+// Runs a meter with a journal that is in its lock already, as `run_journaled` does. `K` is that
+// lock, and the file of the journal.
 fn run_in_lock<
     L: Listener,
     S: OwnSources,
@@ -228,7 +186,7 @@ fn run_in_lock<
     sources: S,
     journal: MeterJournal<F, A>,
     terms: &RunTerms<'_>,
-) -> JournaledRun
+) -> MeterRun<F>
     requires lock { meter.1.lock ≡ meter.0 }
     requires same_lock { meter.1.lock ≡ K.lock }
     requires may_end { K.may_end }
@@ -239,32 +197,29 @@ fn run_in_lock<
         → IsSettled F.seen F.may_leave F.identity F.stored journal.file }
     requires password { IsPassword terms.now.password.now }
     ensures run { (recorder : Recording) → meter.1.known ≡ first_known (opening_of recorder.core)
-        → IfOk result.trace (IsJournaledRun F.acts_as_file F.identity F.seen F.may_leave F.moment
-        F.left_since F.stored F.renews journal.file recorder
-        (record { sources = S.forecasts sources; password = terms.now.password.now })
-        result.served result.journal) }
-    ensures limit { IfOk result.served (IsLimit terms.now.limit) }
-    ensures counted { IfOk result.served (λ served. IsCounted (L.accepted listener.old)
-        (served.served + served.turned_away) (L.accepted listener.new)) }
-    ensures reasons { IfOk result.served (λ served. HaveReasons (L.setup_failures listener.old)
-        served (L.setup_failures listener.new)) }
-    ensures fault { IfErr result.served (StopsFor ⊤ (L.has_failed listener.new)) }
+        → IfOk result.trace (IsRun F.acts_as_file F.identity F.seen F.may_leave F.moment
+        F.left_since F.stored F.renews L.Input.remaining L.Output.contents
+        (EndsFor K.may_end K.may_fail) (Some journal.file) recorder terms.now.password.now
+        (S.forecasts sources) result.served result.journal result.file) }
+    ensures accounts { Accounts terms.now.limit
+        (counts_of L.accepted L.setup_failures listener.old)
+        (counts_of L.accepted L.setup_failures listener.new) ⊤ (L.has_failed listener.new)
+        result.served }
     ensures err { IfErr result.trace (λ fault. (fault ≡ Turns) ⊎ (fault ≡ Memory)) }
     ensures still_out { (recorder : Recording)
         → meter.1.known ≡ first_known (opening_of recorder.core)
-        → IsErrOf result.trace Turns → IsLeftOpen 1 recorder
-        (record { sources = S.forecasts sources; password = terms.now.password.now })
-        result.served }
+        → IsErrOf result.trace Turns → IsLeftOpen 1
+        (ServesClient L.Input.remaining L.Output.contents
+        (JournalSteps
+        (λ calls n. F.acts_as_file → IsSynced F.renews (F.stored K.file) K.first calls n)
+        (EndsFor K.may_end K.may_fail) (λ _. ⊤)) terms.now.password.now)
+        recorder (S.forecasts sources) result.served }
     ensures journal { IfErr result.journal (λ fault. (fault ≡ Write) ⊎ (fault ≡ Memory)) }
-    ensures acted { ActsOnFailure A.has_acted
-        (FailsFor ⊤ (HasFileFailed F.has_failed F.identity (F.identity journal.file)))
-        result.journal }
+    ensures acted { ActsOnFailure A.has_acted (CanFail F.has_failed result.file) result.journal }
 {
-    // (no effect: the contract needs this law)
-    file_is_idle(&journal.file);
     let Some(started) = start::<F, A, K, R>(rt, alloc, meter, journal) else {
         drop(sources);
-        return no_run();
+        return no_run(Err(Fault::Memory));
     };
     let Started {
         shared,
@@ -280,28 +235,17 @@ fn run_in_lock<
     };
     let (port, served) = serve(rt, alloc, listener, sources, port, &terms);
     drop(terms);
-    let (trace, journal) = finish(rt, alloc, shared, port, progress, running);
-    JournaledRun {
+    let (trace, journal, file) = finish(rt, alloc, shared, port, progress, running);
+    MeterRun {
         served,
         trace,
         journal,
+        file,
     }
 }
 
-/// Runs a meter with a journal: puts its recorder, which has no event yet, into a lock for 2^62
-/// calls, starts the journal's worker, serves the clients of the listener, passes the events of the
-/// sources to the meter as [`serve_all_journaled`](meter_server::serve_all_journaled) does, and
-/// then writes the lines that are left to the journal and the text of the meter's trace.
-///
-/// An answer is written only after the lines of all calls that its session has seen are on the
-/// disk. If the journal fails, `on_failure` is called, with the fault `Failed` only if the file has
-/// failed, and no event is answered any more whose line is not on the disk.
-///
-/// The three results are independent: the trace is written whatever ended the serving and the
-/// journal. If the result of the journal is `Ok`, every crash after the run leaves the same lines.
-/// If no memory, port or thread is available for the lock and the journal, all are `Memory`.
-/// Otherwise they are as [`run_meter`](crate::run_meter) says.
-pub fn run_journaled_meter<
+// Runs a meter with a journal, as `run_meter` does.
+pub(crate) fn run_journaled<
     L: Listener,
     S: OwnSources,
     F: DurableFile + Send + 'static,
@@ -315,30 +259,27 @@ pub fn run_journaled_meter<
     sources: S,
     journal: MeterJournal<F, A>,
     terms: &RunTerms<'_>,
-) -> JournaledRun
+) -> MeterRun<F>
     requires unused { recorder.events ≡ [] }
     requires settled { F.acts_as_file
         → IsSettled F.seen F.may_leave F.identity F.stored journal.file }
     requires password { IsPassword terms.now.password.now }
-    ensures run { IfOk result.trace (IsJournaledRun F.acts_as_file F.identity F.seen F.may_leave
-        F.moment
-        F.left_since F.stored F.renews journal.file recorder
-        (record { sources = S.forecasts sources; password = terms.now.password.now })
-        result.served result.journal) }
-    ensures limit { IfOk result.served (IsLimit terms.now.limit) }
-    ensures counted { IfOk result.served (λ served. IsCounted (L.accepted listener.old)
-        (served.served + served.turned_away) (L.accepted listener.new)) }
-    ensures reasons { IfOk result.served (λ served. HaveReasons (L.setup_failures listener.old)
-        served (L.setup_failures listener.new)) }
-    ensures fault { IfErr result.served (StopsFor ⊤ (L.has_failed listener.new)) }
-    ensures err { IfErr result.trace (λ fault. (fault ≡ Turns) ⊎ (fault ≡ Memory)) }
-    ensures still_out { IsErrOf result.trace Turns → IsLeftOpen 1 recorder
-        (record { sources = S.forecasts sources; password = terms.now.password.now })
+    ensures run { IfOk result.trace (IsRun F.acts_as_file F.identity F.seen F.may_leave F.moment
+        F.left_since F.stored F.renews L.Input.remaining L.Output.contents AnyEnd
+        (Some journal.file) recorder terms.now.password.now (S.forecasts sources) result.served
+        result.journal result.file) }
+    ensures accounts { Accounts terms.now.limit
+        (counts_of L.accepted L.setup_failures listener.old)
+        (counts_of L.accepted L.setup_failures listener.new) ⊤ (L.has_failed listener.new)
         result.served }
+    ensures err { IfErr result.trace (λ fault. (fault ≡ Turns) ⊎ (fault ≡ Memory)) }
+    ensures still_out { IsErrOf result.trace Turns → IsLeftOpen 1
+        (ServesClient L.Input.remaining L.Output.contents
+        (session_steps F.acts_as_file F.identity F.seen F.may_leave F.moment F.left_since F.stored
+        F.renews AnyEnd (Some journal.file)) terms.now.password.now)
+        recorder (S.forecasts sources) result.served }
     ensures journal { IfErr result.journal (λ fault. (fault ≡ Write) ⊎ (fault ≡ Memory)) }
-    ensures acted { ActsOnFailure A.has_acted
-        (FailsFor ⊤ (HasFileFailed F.has_failed F.identity (F.identity journal.file)))
-        result.journal }
+    ensures acted { ActsOnFailure A.has_acted (CanFail F.has_failed result.file) result.journal }
 {
     match lock_journaled(alloc, recorder) {
         Ok(meter) => run_in_lock::<L, S, F, A, Brand, R>(
@@ -347,7 +288,7 @@ pub fn run_journaled_meter<
         Err(_) => {
             drop(sources);
             drop(journal);
-            no_run()
+            no_run(Err(Fault::Memory))
         }
     }
 }

@@ -1,25 +1,30 @@
 //! `run_meter`: one run from the recorder to the text of the trace, with clients and the meter's
 //! own events in parallel.
-ghost use Rattle.std.specs.Prelude.{◌≡◌, ◌⊎◌, ⊤, ◌+◌, [], IfOk, IfErr, IsErrOf, IfSome};
+ghost use Rattle.std.specs.Prelude.{◌≡◌, ◌⊎◌, ⊤, [], Err, None, Ok, IfOk, IfErr, IfSome, IsErrOf};
 ghost use Rattle.acse_ber.specs.Password.{IsPassword};
+ghost use Rattle.durable_lines.specs.Lines.{IsSettled};
 ghost use Rattle.meter_run.specs.Closing.{FindsTurn};
-ghost use Rattle.meter_run.specs.Runs.{IsLeftOpen, IsRun, ServesAll, Traces};
-ghost use Rattle.meter_server.specs.JournaledSessions.{AreJournaled};
-ghost use Rattle.meter_server.specs.Listening.{HaveReasons};
-ghost use Rattle.meter_server.specs.ServingAll.{IsLimit, StopsFor};
+ghost use Rattle.meter_run.specs.Journaled.{ActsOnFailure, AnyEnd, CanFail, IsRun, file_in};
+ghost use Rattle.meter_run.specs.Journaled.{first_port, session_steps};
+ghost use Rattle.meter_run.specs.Runs.{IsLeftOpen, Traces};
+ghost use Rattle.meter_server.specs.Ports.{PortSteps};
+ghost use Rattle.meter_server.specs.ServingAll.{Accounts, counts_of};
+ghost use Rattle.meter_server.specs.Sessions.{ServesClient};
 ghost use Rattle.shared_meter.specs.Calls.{Stands};
-ghost use Rattle.relay_core.specs.Opening.{opening_of};
-ghost use Rattle.port_threads.specs.Listening.{IsCounted};
+ghost use Rattle.session_io.specs.declared.fault.ServeFault.TheVariants as fault;
 ghost use Rattle.trace_player.specs.RunTraces.{TellsRun};
 ghost use Rattle.turn_lock.specs.Rule.{first_known};
-ghost use Rattle.program.specs.declared.fault.Fault.TheVariants.{Memory, Turns};
+ghost use Rattle.program.specs.declared.fault.Fault.TheVariants.{Memory, Turns, Write};
 
 use crate::closing::close_meter;
+use crate::journaled::{MeterJournal, run_journaled};
 use cosem_axdr::Octets;
-use meter_server::{ClientTerms, Listener, OwnSources, ServeFault, Served, serve_all_journaled};
+use durable_lines::DurableFile;
+use meter_journal::FailureAction;
+use meter_server::{ClientTerms, Listener, OwnSources, ServeFault, Served, serve};
 use program::Fault;
 use relay_recorder::Recorder;
-use shared_meter::{Durability, Kept, NoJournal};
+use shared_meter::{Kept, NoJournal};
 use std::alloc::{AllocError, Global};
 use std::sync::Wait;
 use std::thread::Threads;
@@ -29,13 +34,28 @@ use turn_lock::{Port, Shared};
 // The maximum number of calls in one run: 2^62, the largest bound of a lock.
 const MAX_CALLS: u64 = 4_611_686_018_427_387_904;
 
+/// The terms on which the clients of a run are served.
+#[derive(Clone, Copy)]
+pub struct RunTerms<'a> {
+    /// The password of the management client, 1 to 32 bytes.
+    pub password: &'a Octets,
+    /// The number of connections to accept; 0 means no limit.
+    pub limit: u64,
+}
+
 /// How a run ended.
 #[derive(Drop)]
-pub struct MeterRun {
+pub struct MeterRun<F: Drop> {
     /// The number of connections that were served and turned away, or why the server stopped.
     pub served: Result<Served, ServeFault>,
     /// The text of the trace. Errors: `Turns` if a call was still in its turn; `Memory`.
     pub trace: Result<Octets, Fault>,
+    /// Whether each line of the run is on the disk; `Ok` also if the meter has no journal. Errors:
+    /// `Write` if the journal failed; `Memory` if it was not started.
+    pub journal: Result<(), Fault>,
+    /// The journal's file, also if the journal has failed; `None` if there is none, or it was not
+    /// started.
+    pub file: Option<F>,
 }
 
 // Returns a lock for 2^62 calls over a recorder without calls, and its first port.
@@ -51,42 +71,6 @@ pub(crate) fn lock(alloc: Global, kept: Kept) -> Result<(Shared<Kept>, Port<Kept
             drop(kept);
             Err(error)
         }
-    }
-}
-
-// Serves clients and passes the events of the sources to the meter. Returns the port.
-pub(crate) fn serve<
-    L: Listener,
-    S: OwnSources,
-    D: Durability + Send + 'static,
-    R: Threads + Wait + Copy + Send + 'static,
->(
-    rt: &R,
-    alloc: Global,
-    listener: &mut L,
-    sources: S,
-    port: Port<Kept>,
-    terms: &ClientTerms<'_, D>,
-) -> (Port<Kept>, Result<Served, ServeFault>)
-    requires password { IsPassword terms.now.password.now }
-    requires fits { D.fits port.lock }
-    ensures lock { result.0.lock ≡ port.lock }
-    ensures serves { ServesAll
-        (record { sources = S.forecasts sources; password = terms.now.password.now })
-        port result.0 result.1 }
-    ensures journaled { IfSome terms.now.journal
-        (λ _. AreJournaled D.is_durable (port.known.splits + 3) result.0) }
-    ensures limit { IfOk result.1 (IsLimit terms.now.limit) }
-    ensures counted { IfOk result.1 (λ served. IsCounted (L.accepted listener.old)
-        (served.served + served.turned_away) (L.accepted listener.new)) }
-    ensures reasons { IfOk result.1 (λ served. HaveReasons (L.setup_failures listener.old) served
-        (L.setup_failures listener.new)) }
-    ensures fault { IfErr result.1 (StopsFor ⊤ (L.has_failed listener.new)) }
-{
-    let sources = sources.into_sources();
-    match serve_all_journaled(rt, alloc, listener, sources, port, terms) {
-        Ok((port, served)) => (port, Ok(served)),
-        Err((port, fault)) => (port, Err(fault)),
     }
 }
 
@@ -125,62 +109,125 @@ pub(crate) fn close_and_export(
     }
 }
 
+// What a run returns for which no lock, journal, port or thread is available.
+pub(crate) fn no_run<F: Drop>(journal: Result<(), Fault>) -> MeterRun<F>
+    ensures served { result.served ≡ Err fault.Memory }
+    ensures trace { result.trace ≡ Err Memory }
+    ensures journal { result.journal ≡ journal }
+    ensures file { result.file ≡ None }
+{
+    MeterRun {
+        served: Err(ServeFault::Memory),
+        trace: Err(Fault::Memory),
+        journal,
+        file: None,
+    }
+}
+
+// Runs a meter without a journal.
+fn run_plain<L: Listener, S: OwnSources, F: DurableFile, R: Threads + Wait + Copy + Send + 'static>(
+    rt: &R,
+    alloc: Global,
+    recorder: Recorder,
+    listener: &mut L,
+    sources: S,
+    terms: &RunTerms<'_>,
+) -> MeterRun<F>
+    requires unused { recorder.events ≡ [] }
+    requires password { IsPassword terms.now.password.now }
+    ensures run { IfOk result.trace (IsRun F.acts_as_file F.identity F.seen F.may_leave F.moment
+        F.left_since F.stored F.renews L.Input.remaining L.Output.contents AnyEnd
+        None recorder terms.now.password.now (S.forecasts sources) result.served result.journal
+        result.file) }
+    ensures accounts { Accounts terms.now.limit
+        (counts_of L.accepted L.setup_failures listener.old)
+        (counts_of L.accepted L.setup_failures listener.new) ⊤ (L.has_failed listener.new)
+        result.served }
+    ensures err { IfErr result.trace (λ fault. (fault ≡ Turns) ⊎ (fault ≡ Memory)) }
+    ensures still_out { IsErrOf result.trace Turns → IsLeftOpen 0
+        (ServesClient L.Input.remaining L.Output.contents PortSteps terms.now.password.now)
+        recorder (S.forecasts sources) result.served }
+    ensures journal { result.journal ≡ Ok tt }
+{
+    match lock(alloc, Kept::new(recorder)) {
+        Ok((shared, port)) => {
+            let terms: ClientTerms<'_, NoJournal> = ClientTerms {
+                password: terms.password,
+                limit: terms.limit,
+                journal: None,
+            };
+            let (port, served) = serve(rt, alloc, listener, sources, port, &terms);
+            MeterRun {
+                served,
+                trace: close_and_export(alloc, shared, port),
+                journal: Ok(()),
+                file: None,
+            }
+        }
+        Err(_) => {
+            drop(sources);
+            no_run(Ok(()))
+        }
+    }
+}
+
 /// Runs a meter: puts its recorder, which has no event yet, into a lock for 2^62 calls, serves the
 /// clients of the listener, passes the events of the sources to the meter as
-/// [`serve_all`](meter_server::serve_all) does,
-/// and then writes the text of the meter's trace. `password`, 1 to 32 bytes, is that of the
-/// management client; `limit` connections are served or turned away, and 0 means no limit.
+/// [`serve_all`](meter_server::serve_all) does, and then writes the text of the meter's trace.
 ///
-/// The two results are independent: the trace is written whatever ended the serving. If out of
-/// memory for the lock, both are `Memory`. The trace is `Turns` only if the serving ended and a
+/// With a journal its worker is started before. Each answer is written only after the lines of all
+/// calls that its session has seen are on the disk, and the lines that are left are written at the
+/// end. If the journal fails, its `on_failure` is called, with the fault `Failed` only if the file
+/// has failed, and no event is answered any more whose line is not on the disk. The file is
+/// returned; a crash at any moment of the run left a front of the lines of its calls.
+///
+/// The results are independent: the trace is written whatever ended the serving and the journal. If
+/// no memory, port or thread is available for the lock and the journal, all are `Memory`, but for
+/// the journal that a meter does not have. The trace is `Turns` only if the serving ended and a
 /// turn was still out then.
 ///
 /// If the serving ended without a fault, the listener accepted as many clients as are counted,
 /// unless the count reached `u64::MAX`; and if fewer than eight were served, those turned away are
 /// the ones whose streams could not be set up. The fault `Listen` means that the listener failed;
 /// the serving never ends with `Read` or `Write`.
-pub fn run_meter<L: Listener, S: OwnSources, R: Threads + Wait + Copy + Send + 'static>(
+pub fn run_meter<
+    L: Listener,
+    S: OwnSources,
+    F: DurableFile + Send + 'static,
+    A: FailureAction + 'static,
+    R: Threads + Wait + Copy + Send + 'static,
+>(
     rt: &R,
     alloc: Global,
     recorder: Recorder,
     listener: &mut L,
     sources: S,
-    password: &Octets,
-    limit: u64,
-) -> MeterRun
+    journal: Option<MeterJournal<F, A>>,
+    terms: &RunTerms<'_>,
+) -> MeterRun<F>
     requires unused { recorder.events ≡ [] }
-    requires password { IsPassword password.now }
-    ensures run { IfOk result.trace (IsRun recorder
-        (record { sources = S.forecasts sources; password = password.now })
-        result.served) }
-    ensures limit { IfOk result.served (IsLimit limit) }
-    ensures counted { IfOk result.served (λ served. IsCounted (L.accepted listener.old)
-        (served.served + served.turned_away) (L.accepted listener.new)) }
-    ensures reasons { IfOk result.served (λ served. HaveReasons (L.setup_failures listener.old)
-        served (L.setup_failures listener.new)) }
-    ensures fault { IfErr result.served (StopsFor ⊤ (L.has_failed listener.new)) }
-    ensures err { IfErr result.trace (λ fault. (fault ≡ Turns) ⊎ (fault ≡ Memory)) }
-    ensures still_out { IsErrOf result.trace Turns → IsLeftOpen 0 recorder
-        (record { sources = S.forecasts sources; password = password.now })
+    requires settled { IfSome (file_in journal) (λ file. F.acts_as_file
+        → IsSettled F.seen F.may_leave F.identity F.stored file) }
+    requires password { IsPassword terms.now.password.now }
+    ensures run { IfOk result.trace (IsRun F.acts_as_file F.identity F.seen F.may_leave F.moment
+        F.left_since F.stored F.renews L.Input.remaining L.Output.contents AnyEnd
+        (file_in journal) recorder terms.now.password.now (S.forecasts sources) result.served
+        result.journal result.file) }
+    ensures accounts { Accounts terms.now.limit
+        (counts_of L.accepted L.setup_failures listener.old)
+        (counts_of L.accepted L.setup_failures listener.new) ⊤ (L.has_failed listener.new)
         result.served }
+    ensures err { IfErr result.trace (λ fault. (fault ≡ Turns) ⊎ (fault ≡ Memory)) }
+    ensures still_out { IsErrOf result.trace Turns → IsLeftOpen (first_port (file_in journal))
+        (ServesClient L.Input.remaining L.Output.contents
+        (session_steps F.acts_as_file F.identity F.seen F.may_leave F.moment F.left_since F.stored
+        F.renews AnyEnd (file_in journal)) terms.now.password.now)
+        recorder (S.forecasts sources) result.served }
+    ensures journal { IfErr result.journal (λ fault. (fault ≡ Write) ⊎ (fault ≡ Memory)) }
+    ensures acted { ActsOnFailure A.has_acted (CanFail F.has_failed result.file) result.journal }
 {
-    match lock(alloc, Kept::new(recorder)) {
-        Ok((shared, port)) => {
-            let terms: ClientTerms<'_, NoJournal> = ClientTerms {
-                password,
-                limit,
-                journal: None,
-            };
-            let (port, served) = serve(rt, alloc, listener, sources, port, &terms);
-            let trace = close_and_export(alloc, shared, port);
-            MeterRun { served, trace }
-        }
-        Err(_) => {
-            drop(sources);
-            MeterRun {
-                served: Err(ServeFault::Memory),
-                trace: Err(Fault::Memory),
-            }
-        }
+    match journal {
+        Some(journal) => run_journaled(rt, alloc, recorder, listener, sources, journal, terms),
+        None => run_plain(rt, alloc, recorder, listener, sources, terms),
     }
 }

@@ -15,18 +15,18 @@ serve-port-requires-send-D g c κs within =
 pub returns-clause-run : goal.returns-clause-run
 returns-clause-run g c = λ recorder known.
     let D = g.F.DurableFile in
+    let K = g.K.JournalIdentity in
     let started = c.in-Some.started in
     journaled_by D.acts_as_file D.identity D.seen D.may_leave D.moment D.left_since D.stored
-    D.renews D.has_failed g.K.JournalIdentity.may_end g.A.FailureAction.has_acted
-    c.args.journal.file g.K.JournalIdentity.file g.K.JournalIdentity.first
-    c.requires.file recorder (record {
-      sources = g.S.OwnSources.forecasts c.args.sources;
-      password = c.args.terms.now.password.now;
-    }) c.serve-port.result.1 c.finish-trace.result.0 c.finish-trace.result.1
+    D.renews D.has_failed K.may_end g.A.FailureAction.has_acted c.args.journal.file
+    g.L.Input.Read.remaining g.L.Output.Write.contents _
+    c.args.terms.now.password.now K.file K.first
+    c.requires.file recorder (g.S.OwnSources.forecasts c.args.sources)
+    c.serve-port.result.1 c.finish-trace.result.0 c.finish-trace.result.1 c.finish-trace.result.2
     started.running.promise.port.value
     started.port c.serve-port.result.0 started.running.promise.worker.value c.in-Some.ensures.file
-    c.file_is_idle.ensures (c.in-Some.ensures.starts _ known) c.serve-port.ensures.serves
-    c.serve-port.ensures.journaled c.finish-trace.ensures.finished
+    (c.in-Some.ensures.starts _ known) c.serve-port.ensures.serves
+    c.finish-trace.ensures.finished
 
 pub returns-clause-acted : goal.returns-clause-acted
 returns-clause-acted g c =
@@ -35,7 +35,7 @@ returns-clause-acted g c =
     acts_once_finished D.acts_as_file D.identity D.seen D.may_leave D.moment D.left_since D.stored
     D.renews D.has_failed g.K.JournalIdentity.may_end g.A.FailureAction.has_acted
     c.args.journal.file task.port.value c.serve-port.result.0 c.finish-trace.result.0
-    c.finish-trace.result.1 task.worker.value c.in-Some.ensures.file
+    c.finish-trace.result.1 c.finish-trace.result.2 task.worker.value c.in-Some.ensures.file
     c.finish-trace.ensures.finished
 
 pub returns-clause-still_out : goal.returns-clause-still_out
@@ -45,9 +45,7 @@ returns-clause-still_out g c = λ recorder known busy.
     let task = started.running.promise in
     left_open_journaled D.acts_as_file D.identity D.seen D.may_leave D.moment D.left_since D.stored
     D.renews D.has_failed g.K.JournalIdentity.may_end g.A.FailureAction.has_acted
-    task.worker.value recorder (record {
-      sources = g.S.OwnSources.forecasts c.args.sources;
-      password = c.args.terms.now.password.now;
-    }) c.serve-port.result.1 c.finish-trace.result.0 c.finish-trace.result.1 task.port.value
-    started.port c.serve-port.result.0 (c.in-Some.ensures.starts _ known)
+    task.worker.value _ recorder (g.S.OwnSources.forecasts c.args.sources)
+    c.serve-port.result.1 c.finish-trace.result.0 c.finish-trace.result.1 c.finish-trace.result.2
+    task.port.value started.port c.serve-port.result.0 (c.in-Some.ensures.starts _ known)
     c.serve-port.ensures.serves c.finish-trace.ensures.finished busy

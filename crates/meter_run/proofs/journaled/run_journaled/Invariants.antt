@@ -1,8 +1,8 @@
--- The lock of the run, its file and the faults of a save. The run may stop its journal at any time.
+-- The lock of the run and its file. The run may stop its journal at any time, and nothing is claimed
+-- of why it ended.
 use Rattle.std.specs.Prelude.{⊤}
 use Rattle.durable_lines.specs.Lines.{lines_in}
-use Rattle.meter_journal.specs.Faults.{IsSaveFault}
-use Rattle.meter_run.proofs.journaled.run_journaled_meter.Given as goal
+use Rattle.meter_run.proofs.journaled.run_journaled.Given as goal
 
 abbrev pub ghosts-run_in_lock : goal.ghosts-run_in_lock
 ghosts-run_in_lock g a =
@@ -12,5 +12,5 @@ ghosts-run_in_lock g a =
       file = D.identity a.journal.file;
       first = lines_in (D.seen a.journal.file);
       may_end = ⊤;
-      may_fail = IsSaveFault D.has_failed D.identity (D.identity a.journal.file) a.meter.1.lock;
+      may_fail = λ fault. ⊤;
     }
