@@ -4,3 +4,4 @@ pub mod Console
 pub mod Ends
 pub mod Lines
 pub mod Queues
+pub mod Reported
