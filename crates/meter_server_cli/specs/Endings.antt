@@ -3,12 +3,16 @@
 --     Prints            the text of a trace was printed
 --     PrintsText        a text of this kind was printed
 --     PrintsRun         the text of the trace of a run was printed
+--     sampler_port      the number of the sampler's port in a run
 --     HasEnded          serving ended without a fault
 --     PrintsTrace       the text of the trace of a run without a fault was printed
 use Rattle.std.specs.Prelude.{◌≡◌, ⊤, ℕ, zero, suc, Bool, true, false, Option, Some, None, List, Result, Ok, Err}
+use Rattle.std.specs.Prelude.{IfOk}
 use Rattle.std.specs.Io.KnownBytes.{Appends}
 use Rattle.meter_console.specs.Ends.{has_failed, lost_lines}
 use Rattle.meter_console.specs.declared.running.ConsoleEnd.{ConsoleEnd}
+use Rattle.meter_server.specs.ServingAll.{IsLimit}
+use Rattle.meter_server.specs.Sessions.{AsksThrough}
 use Rattle.meter_server.specs.WithSources.{no_forecasts}
 use Rattle.meter_run.specs.Runs.{IsRunFrom}
 use Rattle.meter_server.specs.declared.serving_all.Served.{Served}
@@ -17,6 +21,8 @@ use Rattle.program.specs.declared.fault.Fault.TheVariants as fault
 use Rattle.relay_recorder.specs.Recording.{Recording}
 use Rattle.session_io.specs.declared.fault.ServeFault.{ServeFault}
 use Rattle.session_io.specs.declared.fault.ServeFault.TheVariants as serve
+use Rattle.server_files.specs.declared.outputs.EventOutput.{EventOutput}
+use Rattle.server_files.specs.declared.outputs.EventOutput.TheVariants as output
 
 -- the fault of a console that lost this number of lines and may have failed to read; lost lines
 -- take precedence
@@ -43,15 +49,20 @@ pub record PrintsText (IsText : List ℕ → Type 0) (written written' : Option 
   pub kind : IsText text
   pub printed : Appends written written' text
 
--- Whether the text of the trace of a run was printed completely: a run of the meter with this
--- recorder, whose management client has this password, and whose serving ended in this way. The
--- ports before `first` are not those of sources and sessions.
-pub record PrintsRun (recorder : Recording) (password : List ℕ) (served : Result Served ServeFault)
-    (written written' : Option (List ℕ)) : Type 0 where
-  pub first : ℕ
-  pub prints : PrintsText (IsRunFrom first recorder
-      (record { sources = no_forecasts; password = password }) served)
-      written written'
+-- whether the text of the trace of a run was printed completely: a run of the meter with this
+-- recorder, whose management client has this password, and whose serving ended in this way. Each
+-- session's port made the calls of the session. `first` is the number of the sampler's port: 1 if
+-- the run has a journal or a relay, whose worker has the first port, else 0
+abbrev pub PrintsRun : (first : ℕ) → (recorder : Recording) → (password : List ℕ)
+    → (served : Result Served ServeFault) → (written written' : Option (List ℕ)) → Type 0
+PrintsRun first recorder password served =
+    PrintsText (IsRunFrom first (AsksThrough password) recorder no_forecasts served)
+
+-- the number of the sampler's port, by the outputs of the meter's events
+abbrev pub sampler_port : {R F : Type 0} → EventOutput R F → ℕ
+sampler_port output.None = 0
+sampler_port (output.Journal file) = 1
+sampler_port (output.Relay file) = 1
 
 -- whether serving ended without a fault: all its connections were served or turned away, or its
 -- listener ended
@@ -60,9 +71,11 @@ HasEnded (Ok all) = ⊤
 HasEnded (Err serve.Listen) = ⊤
 HasEnded (Err other) = ⊥
 
--- whether the text of the trace of a run whose serving ended without a fault was printed completely
-pub record PrintsTrace (recorder : Recording) (password : List ℕ)
+-- whether the text of the trace of a run whose serving ended without a fault was printed
+-- completely; if there is a limit of connections, and the listener did not end, as many came
+pub record PrintsTrace (first limit : ℕ) (recorder : Recording) (password : List ℕ)
     (written written' : Option (List ℕ)) : Type 0 where
   pub served : Result Served ServeFault
   pub ended : HasEnded served
-  pub run : PrintsRun recorder password served written written'
+  pub limited : IfOk served (IsLimit limit)
+  pub run : PrintsRun first recorder password served written written'

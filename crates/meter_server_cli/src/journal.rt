@@ -1,26 +1,34 @@
-//! A run of `serve` with a journal, a relay or both.
-ghost use Rattle.std.specs.Prelude.{◌≡◌, None, OnOk, length};
+//! A run of `serve`, with a journal, a relay, both or none.
+ghost use Rattle.std.specs.Prelude.{◌≡◌, Some, IfOk, IfSome, OnOk, length};
 ghost use Rattle.durable_lines.specs.Lines.{IsSettled};
-ghost use Rattle.meter_run.specs.Journaled.{IsJournaledRun};
-ghost use Rattle.meter_server.specs.WithSources.{no_forecasts};
-ghost use Rattle.meter_server_cli.specs.Endings.{PrintsText};
+ghost use Rattle.meter_run.specs.Journaled.{file_in, first_port};
+ghost use Rattle.meter_server.specs.ServingAll.{IsLimit};
+ghost use Rattle.meter_server_cli.specs.Endings.{PrintsRun};
 
 use crate::ending::print_trace;
 use crate::listening::Listening;
-use crate::serving::{ClientParameters, meter_sources};
-use durable_lines::DurableFile;
-use meter_console::{ConsoleSources, SourcesEnd};
+use crate::serving::{ServedMeter, meter_sources};
+use durable_lines::{DurableFile, LockFile, MemoryFile};
+use meter_console::SourcesEnd;
 use meter_journal::{FailureAction, JournalFault};
-use meter_run::{JournaledRun, MeterJournal, RunTerms, run_journaled_meter};
+use meter_run::{MeterJournal, MeterRun, RunTerms, run_meter};
 use meter_server::{ServeFault, Served};
 use program::Fault;
-use relay_recorder::Recorder;
-use server_files::EventFile;
+use server_files::{EventFile, RelayedJournal};
 use server_io::Closing;
 use session_log::Log;
+use std::fs::{File, Files};
 use std::io::Write;
 use std::sync::Wait;
 use std::thread::Threads;
+use std::time::Clock;
+
+// The results of serving, of the journal or the relay, and of printing.
+type RunResults = (
+    Result<Served, ServeFault>,
+    Result<(), Fault>,
+    Result<(), Fault>,
+);
 
 // What ends a server whose journal has failed: its listening, and the sources of its own events.
 #[derive(Drop)]
@@ -28,31 +36,6 @@ pub(crate) struct ServerEnd<R> {
     pub(crate) log: Log,
     pub(crate) closing: Closing<HostRuntime>,
     pub(crate) sources: SourcesEnd<R>,
-}
-
-// What a server with a journal or a relay has besides its sockets.
-#[derive(Drop)]
-pub(crate) struct JournaledParts<R, F: DurableFile> {
-    pub(crate) sources: ConsoleSources<R>,
-    pub(crate) journal: EventFile<F>,
-    pub(crate) end: ServerEnd<R>,
-}
-
-impl<R, F: DurableFile> JournaledParts<R, F> {
-    // Returns the parts of a server with this journal or relay.
-    pub(crate) fn new(
-        sources: ConsoleSources<R>,
-        journal: EventFile<F>,
-        end: ServerEnd<R>,
-    ) -> JournaledParts<R, F>
-        ensures { result ≡ record { sources = sources; journal = journal; end = end } }
-    {
-        JournaledParts {
-            sources,
-            journal,
-            end,
-        }
-    }
 }
 
 // Reports that the journal of a path has failed, and ends its server. A relay without a journal has
@@ -75,9 +58,9 @@ impl<R: Wait + Copy + Drop + Send> FailureAction for JournalEnd<R> {
     }
 }
 
-// Runs a meter with its journal or its relay, and prints its trace. Returns the result of its
-// connections, that of the journal or the relay, and whether the trace was printed.
-pub(crate) fn run_journaled<
+// Runs a meter, and prints its trace once the file of its journal is closed. Returns the result of
+// its connections, that of the journal, and whether the trace was printed.
+fn run_and_print<
     R: Threads + Wait + Copy + Drop + Send + 'static,
     F: DurableFile + Send + 'static,
     W: Write,
@@ -86,54 +69,93 @@ pub(crate) fn run_journaled<
     threads: &R,
     output: &mut W,
     listening: &mut Listening<R>,
-    recorder: Recorder,
-    parts: JournaledParts<R, F>,
-    meter: &ClientParameters,
-) -> (
-    Result<Served, ServeFault>,
-    Result<(), Fault>,
-    Result<(), Fault>,
-)
-    requires unused { length recorder.events ≡ 0 }
-    requires settled { F.acts_as_file
-        → IsSettled F.seen F.may_leave F.identity F.stored parts.journal.file }
-    ensures { OnOk result.2
-        (PrintsText (IsJournaledRun F.acts_as_file F.identity F.seen F.may_leave F.moment
-        F.left_since
-        F.stored F.renews parts.journal.file recorder
-        (record { sources = no_forecasts; password = meter.now.password })
-        result.0 result.1)
+    meter: ServedMeter<R>,
+    journal: Option<MeterJournal<F, JournalEnd<R>>>,
+    lock: Option<LockFile>,
+) -> RunResults
+    requires unused { length meter.recorder.events ≡ 0 }
+    requires settled { IfSome (file_in journal) (λ file. F.acts_as_file
+        → IsSettled F.seen F.may_leave F.identity F.stored file) }
+    ensures limited { IfOk result.0 (IsLimit meter.clients.connections) }
+    ensures printed { OnOk result.2 (PrintsRun (first_port (file_in journal)) meter.recorder
+        meter.clients.password result.0 (W.contents output.old) (W.contents output.new)) }
+{
+    let ServedMeter {
+        recorder,
+        sources,
+        log,
+        clients,
+    } = meter;
+    let terms = RunTerms {
+        password: &clients.password,
+        limit: clients.connections,
+    };
+    let MeterRun {
+        served,
+        trace,
+        journal,
+        file,
+    } = run_meter(
+        threads,
+        rt.alloc(),
+        recorder,
+        listening,
+        meter_sources(sources, log),
+        journal,
+        &terms,
+    );
+    drop(file);
+    drop(lock);
+    (served, journal, print_trace(output, trace))
+}
+
+// Runs a meter whose events go to a file, its journal or its relay, and prints its trace. It is
+// generic, so that no proof reads how files are stored.
+pub(crate) fn run_with_events<
+    F: DurableFile + Send + 'static,
+    S: Clock + Files<File = File> + Copy + Drop + Send + 'static,
+    R: Threads + Wait + Copy + Drop + Send + 'static,
+    W: Write,
+>(
+    rt: &HostRuntime,
+    threads: &R,
+    output: &mut W,
+    listening: &mut Listening<R>,
+    meter: ServedMeter<R>,
+    events: EventFile<RelayedJournal<F, S>>,
+    end: ServerEnd<R>,
+) -> RunResults
+where
+    S::Dir: Send + 'static,
+    requires unused { length meter.recorder.events ≡ 0 }
+    requires unclaimed { F.acts_as_file → ⊥ }
+    ensures limited { IfOk result.0 (IsLimit meter.clients.connections) }
+    ensures printed { OnOk result.2 (PrintsRun 1 meter.recorder meter.clients.password result.0
         (W.contents output.old) (W.contents output.new)) }
 {
-    let JournaledParts {
-        sources,
-        journal,
-        end,
-    } = parts;
-    let EventFile { path, file, lock } = journal;
+    let EventFile { path, file, lock } = events;
     let on_failure = JournalEnd {
         path,
         has_journal: lock.is_some(),
         server: end,
     };
-    let sources = meter_sources(sources);
-    let terms = RunTerms {
-        password: &meter.password,
-        limit: meter.connections,
-    };
-    let JournaledRun {
-        served,
-        trace,
-        journal,
-    } = run_journaled_meter(
-        threads,
-        rt.alloc(),
-        recorder,
-        listening,
-        sources,
-        MeterJournal { file, on_failure },
-        &terms,
-    );
-    drop(lock);
-    (served, journal, print_trace(output, trace))
+    let journal = Some(MeterJournal { file, on_failure });
+    run_and_print(rt, threads, output, listening, meter, journal, lock)
+}
+
+// Runs a meter without a journal and a relay, and prints its trace.
+pub(crate) fn run_alone<R: Threads + Wait + Copy + Drop + Send + 'static, W: Write>(
+    rt: &HostRuntime,
+    threads: &R,
+    output: &mut W,
+    listening: &mut Listening<R>,
+    meter: ServedMeter<R>,
+) -> RunResults
+    requires unused { length meter.recorder.events ≡ 0 }
+    ensures limited { IfOk result.0 (IsLimit meter.clients.connections) }
+    ensures printed { OnOk result.2 (PrintsRun 0 meter.recorder meter.clients.password result.0
+        (W.contents output.old) (W.contents output.new)) }
+{
+    let journal: Option<MeterJournal<MemoryFile, JournalEnd<R>>> = None;
+    run_and_print(rt, threads, output, listening, meter, journal, None)
 }

@@ -1,27 +1,23 @@
 //! The command `serve`: a meter that clients reach over TCP.
-ghost use Rattle.std.specs.Prelude.{◌≡◌, None, OnOk, length};
+ghost use Rattle.std.specs.Prelude.{◌≡◌, OnOk, length};
 ghost use Rattle.acse_ber.specs.Password.{IsPassword};
-ghost use Rattle.meter_run.specs.Runs.{IsRun};
-ghost use Rattle.meter_server.specs.WithSources.{no_forecasts};
-ghost use Rattle.meter_server_cli.specs.Endings.{PrintsRun, PrintsText, PrintsTrace};
+ghost use Rattle.meter_server_cli.specs.Endings.{PrintsTrace, sampler_port};
 
-use crate::ending::{Ends, print_trace, run_fault};
-use crate::journal::{JournaledParts, ServerEnd, run_journaled};
+use crate::ending::{Ends, run_fault};
+use crate::journal::{ServerEnd, run_alone, run_with_events};
 use crate::listening::Listening;
 use crate::starting::Server;
 use cosem_axdr::Octets;
 use counted_io::Monitored;
-use durable_lines::DurableFile;
 use meter_console::{
     ClockGuard, Console, ConsoleBlocks, ConsoleEnd, ConsoleMoments, ConsolePresses, ConsoleSources,
-    Reading,
+    Reading, ReportedMoments,
 };
-use meter_run::{MeterRun, Sources, run_meter};
-use meter_server::{ServeFault, Served};
+use meter_run::Sources;
 use program::Fault;
 use relay_recorder::Recorder;
 use server_commands::{Bounds, ServePlan};
-use server_files::{EventOutput, RelayAlone, RelayedJournal};
+use server_files::EventOutput;
 use server_io::{Closing, Sockets, Stopped, StreamLimits};
 use session_log::Log;
 use std::alloc::{AllocError, Global};
@@ -66,10 +62,29 @@ fn make_sockets(
     Ok((sockets, stopped, second))
 }
 
-// Returns the sources of a console as those of a meter.
+// A meter that is to be served.
+#[derive(Drop)]
+pub(crate) struct ServedMeter<R> {
+    pub(crate) recorder: Recorder,
+    // The sources of its own events.
+    pub(crate) sources: ConsoleSources<R>,
+    // Where schedules that ran are reported.
+    pub(crate) log: Log,
+    pub(crate) clients: ClientParameters,
+}
+
+// The sources of a meter's own events.
+type MeterSources<R> = Sources<
+    ConsoleBlocks<R>,
+    ReportedMoments<ConsoleMoments<R>, Log>,
+    ConsolePresses<R>,
+>;
+
+// Returns the sources of a console as those of a meter. Schedules that ran are reported.
 pub(crate) fn meter_sources<R: Wait + Copy + Drop + Send>(
     sources: ConsoleSources<R>,
-) -> Sources<ConsoleBlocks<R>, ConsoleMoments<R>, ConsolePresses<R>> {
+    log: Log,
+) -> MeterSources<R> {
     let ConsoleSources {
         blocks,
         moments,
@@ -77,41 +92,9 @@ pub(crate) fn meter_sources<R: Wait + Copy + Drop + Send>(
     } = sources;
     Sources {
         blocks,
-        moments,
+        moments: ReportedMoments::new(moments, log),
         buttons: presses,
     }
-}
-
-// Runs the meter and prints its trace. Returns the result of its connections, and whether the
-// trace was printed.
-#[tactic(auto, using(server_commands::proofs::Unused::unused))]
-fn run_and_print<R: Threads + Wait + Copy + Drop + Send + 'static, W: Write>(
-    threads: &R,
-    alloc: Global,
-    output: &mut W,
-    listening: &mut Listening<R>,
-    sources: ConsoleSources<R>,
-    recorder: Recorder,
-    meter: &ClientParameters,
-) -> (Result<Served, ServeFault>, Result<(), Fault>)
-    requires unused { length recorder.events ≡ 0 }
-    ensures { OnOk result.1
-        (PrintsText (IsRun recorder
-        (record { sources = no_forecasts; password = meter.now.password })
-        result.0)
-        (W.contents output.old) (W.contents output.new)) }
-{
-    let sources = meter_sources(sources);
-    let MeterRun { served, trace } = run_meter(
-        threads,
-        alloc,
-        recorder,
-        listening,
-        sources,
-        &meter.password,
-        meter.connections,
-    );
-    (served, print_trace(output, trace))
 }
 
 // The input of the console's thread.
@@ -144,6 +127,7 @@ fn guard_of(
 struct Prepared<R> {
     listening: Listening<R>,
     sources: ConsoleSources<R>,
+    reports: Log,
     reading: ConsoleReading<R>,
     end: ServerEnd<R>,
 }
@@ -206,6 +190,7 @@ fn prepare<R: Wait + Copy + Drop>(
     Ok(Prepared {
         listening,
         sources,
+        reports: log.share()?,
         reading,
         end,
     })
@@ -217,6 +202,8 @@ struct Running<R> {
     log: Log,
     listening: Listening<R>,
     sources: ConsoleSources<R>,
+    // Where schedules that ran are reported.
+    reports: Log,
     console: JoinHandle<ConsoleEnd>,
     end: ServerEnd<R>,
 }
@@ -240,6 +227,7 @@ fn start_server<R: Threads + Wait + Copy + Drop + Send + 'static>(
     let Prepared {
         listening,
         sources,
+        reports,
         reading,
         end,
     } = prepared;
@@ -248,6 +236,7 @@ fn start_server<R: Threads + Wait + Copy + Drop + Send + 'static>(
             log,
             listening,
             sources,
+            reports,
             console,
             end,
         }),
@@ -255,67 +244,9 @@ fn start_server<R: Threads + Wait + Copy + Drop + Send + 'static>(
     }
 }
 
-// Runs the meter with its journal as `run_journaled` does. It is generic, so that no proof reads
-// how files are stored.
-fn run_on_journal<
-    F: DurableFile + Send + 'static,
-    S: Clock + Files<File = File> + Copy + Drop + Send + 'static,
-    R: Threads + Wait + Copy + Drop + Send + 'static,
-    W: Write,
->(
-    rt: &HostRuntime,
-    threads: &R,
-    output: &mut W,
-    listening: &mut Listening<R>,
-    recorder: Recorder,
-    parts: JournaledParts<R, RelayedJournal<F, S>>,
-    meter: &ClientParameters,
-) -> (
-    Result<Served, ServeFault>,
-    Result<(), Fault>,
-    Result<(), Fault>,
-)
-where
-    S::Dir: Send + 'static,
-    requires unused { length recorder.events ≡ 0 }
-    requires unclaimed { F.acts_as_file → ⊥ }
-    ensures printed { OnOk result.2 (PrintsRun recorder meter.now.password result.0
-        (W.contents output.old) (W.contents output.new)) }
-{
-    run_journaled(rt, threads, output, listening, recorder, parts, meter)
-}
-
-// Runs the meter with its relay alone as `run_journaled` does.
-fn run_on_relay<
-    F: DurableFile + Send + 'static,
-    S: Clock + Files<File = File> + Copy + Drop + Send + 'static,
-    R: Threads + Wait + Copy + Drop + Send + 'static,
-    W: Write,
->(
-    rt: &HostRuntime,
-    threads: &R,
-    output: &mut W,
-    listening: &mut Listening<R>,
-    recorder: Recorder,
-    parts: JournaledParts<R, RelayAlone<F, S>>,
-    meter: &ClientParameters,
-) -> (
-    Result<Served, ServeFault>,
-    Result<(), Fault>,
-    Result<(), Fault>,
-)
-where
-    S::Dir: Send + 'static,
-    requires unused { length recorder.events ≡ 0 }
-    ensures printed { OnOk result.2 (PrintsRun recorder meter.now.password result.0
-        (W.contents output.old) (W.contents output.new)) }
-{
-    run_journaled(rt, threads, output, listening, recorder, parts, meter)
-}
-
-// Runs the meter, with its journal and its relay if it has one, and prints its trace. Returns the
-// results of serving, of the journal or the relay, and of printing. It is generic over what stores
-// files: over a certain one its proof takes minutes.
+// Runs the meter with the outputs of its events, and prints its trace. Returns the results of
+// serving, of the journal or the relay, and of printing. It is generic over what stores files: over
+// a certain one its proof takes minutes.
 fn serve_and_print<
     S: Clock + Files<File = File> + Copy + Drop + Send + 'static,
     R: Threads + Wait + Copy + Drop + Send + 'static,
@@ -324,40 +255,29 @@ fn serve_and_print<
     rt: &HostRuntime,
     threads: &R,
     output: &mut W,
-    server: (Listening<R>, ConsoleSources<R>, ServerEnd<R>),
-    recorder: Recorder,
+    server: (Listening<R>, ServerEnd<R>),
+    meter: ServedMeter<R>,
     events: EventOutput<S>,
-    meter: &ClientParameters,
 ) -> (Result<(), Fault>, Result<(), Fault>, Result<(), Fault>)
 where
     S::Dir: Send + 'static,
-    requires { length recorder.events ≡ 0 }
-    ensures printed { OnOk result.2 (OnOk result.0 (PrintsTrace recorder meter.now.password
-        (W.contents output.old) (W.contents output.new))) }
+    requires { length meter.recorder.events ≡ 0 }
+    ensures printed { OnOk result.2 (OnOk result.0
+        (PrintsTrace (sampler_port events) meter.clients.connections meter.recorder
+        meter.clients.password (W.contents output.old) (W.contents output.new))) }
 {
-    let (mut accepting, sources, end) = server;
+    let (mut accepting, end) = server;
     let listening = &mut accepting;
     let (served, kept, printed) = match events {
-        EventOutput::Journal(journal) => {
-            let parts = JournaledParts::new(sources, journal, end);
-            run_on_journal(rt, threads, output, listening, recorder, parts, meter)
+        EventOutput::Journal(file) => {
+            run_with_events(rt, threads, output, listening, meter, file, end)
         }
-        EventOutput::Relay(journal) => {
-            let parts = JournaledParts::new(sources, journal, end);
-            run_on_relay(rt, threads, output, listening, recorder, parts, meter)
+        EventOutput::Relay(file) => {
+            run_with_events(rt, threads, output, listening, meter, file, end)
         }
         EventOutput::None => {
             drop(end);
-            let (served, printed) = run_and_print(
-                threads,
-                rt.alloc(),
-                output,
-                listening,
-                sources,
-                recorder,
-                meter,
-            );
-            (served, Ok(()), printed)
+            run_alone(rt, threads, output, listening, meter)
         }
     };
     (
@@ -376,23 +296,28 @@ fn serve_running<R: Threads + Wait + Copy + Drop + Send + 'static, W: Write>(
     running: Running<R>,
     recorder: Recorder,
     events: EventOutput<HostRuntime>,
-    meter: &ClientParameters,
+    clients: ClientParameters,
 ) -> Result<(), Fault>
     requires { length recorder.events ≡ 0 }
-    ensures { OnOk result (PrintsTrace recorder meter.now.password
-        (W.contents output.old) (W.contents output.new)) }
+    ensures { OnOk result (PrintsTrace (sampler_port events) clients.connections recorder
+        clients.password (W.contents output.old) (W.contents output.new)) }
 {
     let Running {
         log,
         listening,
         sources,
+        reports,
         console,
         end,
     } = running;
-    let server = (listening, sources, end);
-    let (served, kept, printed) = serve_and_print(
-        rt, threads, output, server, recorder, events, meter,
-    );
+    let meter = ServedMeter {
+        recorder,
+        sources,
+        log: reports,
+        clients,
+    };
+    let server = (listening, end);
+    let (served, kept, printed) = serve_and_print(rt, threads, output, server, meter, events);
     if matches!(printed, Err(Fault::Write)) {
         let _ = eprintln!(log; "standard output: a write failed");
     }
@@ -420,8 +345,8 @@ pub(crate) fn run<R: Threads + Wait + Copy + Drop + Send + 'static, W: Write>(
     output: &mut W,
     server: Server,
 ) -> Result<(), Fault>
-    ensures { OnOk result (PrintsTrace server.plan.recorder server.plan.password
-        (W.contents output.old) (W.contents output.new)) }
+    ensures { OnOk result (PrintsTrace (sampler_port server.events) server.plan.bounds.connections
+        server.plan.recorder server.plan.password (W.contents output.old) (W.contents output.new)) }
 {
     let Server {
         plan,
@@ -441,11 +366,11 @@ pub(crate) fn run<R: Threads + Wait + Copy + Drop + Send + 'static, W: Write>(
     };
     match start_server(rt, threads, log, bounds, input, (listener, address)) {
         Ok(running) => {
-            let meter = ClientParameters {
+            let clients = ClientParameters {
                 password,
                 connections: bounds.connections,
             };
-            serve_running(rt, threads, output, running, recorder, events, &meter)
+            serve_running(rt, threads, output, running, recorder, events, clients)
         }
         Err(fault) => {
             drop(recorder);

@@ -9,8 +9,10 @@ use crate::meters::new_recorder;
 use crate::sources::{ListedBlocks, ListedMoments, ListedPresses};
 use crate::traces::{Lines, is_merged};
 use cosem_axdr::Octets;
+use durable_lines::MemoryFile;
 use lane_sampler::{Block, BlockMade};
-use meter_run::{MeterRun, Sources, run_meter};
+use meter_journal::{FailureAction, JournalFault};
+use meter_run::{MeterJournal, MeterRun, RunTerms, Sources, run_meter};
 use meter_server::{ServeFault, Served};
 use relay_recorder::Recorder;
 use std::alloc::{AllocError, Global};
@@ -19,6 +21,14 @@ use std::process::Abort;
 use std::sync::{Arc, Wait};
 use std::test::Fail;
 use std::thread::Threads;
+
+/// What is done if a journal fails: nothing, since these meters have none.
+#[derive(Drop)]
+struct NoAction;
+
+impl FailureAction for NoAction {
+    fn act(self, _fault: JournalFault) {}
+}
 
 /// Sources that are lists.
 type Lists = Sources<ListedBlocks, ListedMoments, ListedPresses>;
@@ -35,7 +45,7 @@ fn run_lists<R: Threads + Wait + Copy + Send + 'static>(
     lists: Lists,
     password: &Octets,
     limit: u32,
-) -> MeterRun
+) -> MeterRun<MemoryFile>
     requires unused { recorder.events ≡ [] }
     requires password { IsPassword password.now }
     requires limited { 0 < limit }
@@ -51,23 +61,26 @@ fn run_lists<R: Threads + Wait + Copy + Send + 'static>(
         listener.new.accepted ≡ listener.old.accepted + (served.served + served.turned_away)) }
     ensures failed { IsErrOf result.served Listen → IsTrue listener.new.has_failed }
 {
-    run_meter(
-        rt,
-        alloc,
-        recorder,
-        listener,
-        lists,
+    let journal: Option<MeterJournal<MemoryFile, NoAction>> = None;
+    let terms = RunTerms {
         password,
-        u64::from(limit),
-    )
+        limit: u64::from(limit),
+    };
+    run_meter(rt, alloc, recorder, listener, lists, journal, &terms)
 }
 
 /// How a run ended, and whether its trace has the lines of these lists.
 type RunResult = (Result<Served, ServeFault>, bool);
 
 // Returns how a run ended, and whether its trace has the lines of these lists.
-fn result_of(run: MeterRun, expected: &[Lines; 6]) -> RunResult {
-    let MeterRun { served, trace } = run;
+fn result_of(run: MeterRun<MemoryFile>, expected: &[Lines; 6]) -> RunResult {
+    let MeterRun {
+        served,
+        trace,
+        journal: _,
+        file,
+    } = run;
+    drop(file);
     match trace {
         Ok(text) => {
             let is_traced = is_merged(text.as_slice(), expected);

@@ -18,6 +18,8 @@ struct Bumper {
 }
 
 impl Worker<Port<Counter>> for Bumper {
+    type End = Result<(), CallFault>;
+
     ghost did = { λ _ p q _. IsSame p q };
 
     fn work<W: Wait>(

@@ -195,7 +195,7 @@ impl Inspected for RefusingCounter {
 
     type Finding = bool;
 
-    ghost finds = { λ h question finding. IsTrue finding → question ≡ count_after 0 h };
+    ghost finds = { λ _ h question finding. IsTrue finding → question ≡ count_after 0 h };
 
     fn inspect(&mut self, _alloc: Global, question: u64) -> bool {
         question == self.count

@@ -3,11 +3,12 @@ use Rattle.run_tests.proofs.runs.run_lists.Goals as goal
 
 pub returns-clause-run : goal.returns-clause-run
 returns-clause-run g c =
-    listed_if c.args.recorder
+    let run = c.run_meter.result in
+    listed_if _ _ _ _ _ _ _ _ _ _ c.args.recorder
     (record {
       blocks = c.args.lists.blocks.left.items;
       moments = c.args.lists.moments.left.items;
       presses = c.args.lists.buttons.left;
       password = c.args.password.now;
     })
-    c.run_meter.result.served c.run_meter.result.trace c.run_meter.ensures.run
+    run.served run.journal run.file run.trace c.run_meter.ensures.run
