@@ -4,6 +4,7 @@ pub mod LineLemmas
 pub mod Moments
 pub mod PastLemmas
 pub mod PlaceLemmas
+pub mod RawLemmas
 pub mod RecoveryLemmas
 pub mod ReplaceLemmas
 pub mod StateLemmas

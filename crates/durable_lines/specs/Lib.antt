@@ -7,5 +7,6 @@ pub mod Lines
 pub mod MemoryFile
 pub mod MemoryPlace
 pub mod Moments
+pub mod RawFile
 pub mod StoredFile
 pub mod StoredPlace

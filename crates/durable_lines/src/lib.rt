@@ -16,8 +16,11 @@ mod lock_file;
 mod memory_file;
 mod memory_place;
 mod older_files;
+mod os_file;
 mod own_file;
 mod place;
+mod raw_calls;
+mod raw_file;
 mod recovery;
 mod replacement;
 mod scan;
@@ -34,12 +37,14 @@ pub use laws::{
 pub use lock_file::LockFile;
 pub use memory_file::MemoryFile;
 pub use memory_place::MemoryPlace;
+pub use os_file::OsFile;
 pub use own_file::{
     FileAccess, GROUP_READABLE, OWNER_ONLY, create_anew, is_same_file, open_or_create, open_own,
 };
 pub use place::Place;
+pub use raw_file::RawFile;
 pub use recovery::{Recovered, recover};
 pub use replacement::replace;
 pub use scan::{damaged_at, is_text, whole_len};
-pub use stored_file::StoredFile;
+pub use stored_file::{OsStoredFile, StoredFile};
 pub use stored_place::{PlacePaths, StoredPlace};

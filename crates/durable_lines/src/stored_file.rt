@@ -1,148 +1,138 @@
-//! `StoredFile`: a file of the operating system as a durable file.
-ghost use Rattle.std.specs.Prelude.{◌≡◌, ◌≤◌, [], IfOk, length};
-ghost use Rattle.durable_lines.specs.StoredFile.{limit_of, HasFailed};
+//! `StoredFile`: a raw file, limited in length, as a durable file.
+ghost use Rattle.std.specs.Prelude.{◌≡◌, ◌+◌, ◌<◌, IfOk, length};
+ghost use Rattle.durable_lines.specs.FileState.{seen_of};
+ghost use Rattle.durable_lines.specs.RawFile.{LeftNow};
+ghost use Rattle.durable_lines.specs.StoredFile.{limit_of, HasFailed, StaysWithin};
 
 use crate::durable_file::DurableFile;
 use crate::fault::{FileFault, LockFault, record_failure};
+use crate::os_file::OsFile;
+use crate::raw_calls::{append_within, cut_to, read_within, sync_bytes};
+use crate::raw_file::RawFile;
 use std::alloc::Global;
 use std::fs::{File, TryLockError};
-use std::io;
-use std::io::{ErrorKind, Read, Seek, SeekFrom, Write};
-use std::os::fd::AsRawFd;
+use std::marker::Model;
 
-/// A file of the operating system, locked against other processes and limited in length. After a
-/// call failed, every later call fails, too, but `renew`, which does nothing.
-///
-/// No contract can promise what the operating system does, so nothing is claimed of the bytes: that
-/// such a file acts as the crash model says is a premise.
+/// A raw file that is limited in length. After a call failed, every later call fails, too, but
+/// `renew`, which does nothing. It acts as the crash model says if the raw file does.
 #[derive(Debug, Drop)]
-pub struct StoredFile {
-    file: File,
+pub struct StoredFile<R: RawFile> {
+    raw: R,
     limit: usize,
     has_failed: bool,
 }
 
-impl StoredFile {
-    /// Locks a file that is open for reading and writing, until the value is dropped. `limit` is
-    /// the maximum length in bytes: a longer file is not read, and an append that would exceed it
-    /// is refused. Then syncs the file, so that it is read from the disk. Errors: `Held` if another
-    /// process has locked the file, `Failed` if it cannot be locked or synced.
-    pub fn try_lock(file: File, limit: usize) -> Result<StoredFile, LockFault>
-        ensures unfailed { IfOk result (λ stored. ¬ HasFailed stored) }
+/// A file of the operating system, locked against other processes and limited in length. That it
+/// acts as the crash model says is a premise.
+pub type OsStoredFile = StoredFile<OsFile>;
+
+impl<R: RawFile> Model for StoredFile<R> {
+    ghost use Rattle.std.specs.Prelude.{◌≡◌, true};
+    ghost use Rattle.durable_lines.specs.StoredFile.{StoredState};
+
+    ghost Value = { StoredState R };
+
+    ghost view = { λ f. record { raw = f.raw; limit = f.limit; has_failed = f.has_failed } };
+
+    // (a file fails only if a call on the raw file has)
+    ghost invariant = { λ f. f.has_failed ≡ true → R.has_failed f.raw };
+}
+
+impl<R: RawFile> StoredFile<R> {
+    /// Locks a raw file until the value is dropped, syncs it, and drops what the system has of it
+    /// in memory, so that it is read from the disk. `limit` is the maximum length in bytes: a
+    /// longer file is not read, and an append that would exceed it is refused. Errors: `Held` if
+    /// another process has locked the file, `Failed` if it cannot be locked or synced.
+    pub fn try_lock_raw(raw: R, limit: usize) -> Result<StoredFile<R>, LockFault>
+        ensures locked { IfOk result (λ stored. R.is_locked stored.raw) }
+        ensures on_disk { IfOk result (λ stored. R.reads_disk stored.raw) }
         ensures limit { IfOk result (λ stored. limit_of stored ≡ limit) }
+        ensures unfailed { IfOk result (λ stored. ¬ HasFailed stored) }
     {
-        match file.try_lock() {
+        let mut raw = raw;
+        match raw.try_lock() {
             Ok(()) => {}
             Err(TryLockError::WouldBlock) => return Err(LockFault::Held),
             Err(TryLockError::Error(_)) => return Err(LockFault::Failed),
         }
-        read_from_disk(&file).map_err(|_| LockFault::Failed)?;
+        if raw.sync_data().is_err() || raw.drop_pages().is_err() {
+            return Err(LockFault::Failed);
+        }
         Ok(StoredFile {
-            file,
+            raw,
             limit,
             has_failed: false,
         })
     }
 }
 
-// Syncs a file and drops the pages that the system has in memory: if a sync of an earlier process
-// failed, they may differ from the disk, and further syncs do not write them again.
-fn read_from_disk(file: &File) -> io::Result<()> {
-    file.sync_data()?;
-    match libc::posix_fadvise(file.as_raw_fd(), 0, 0, libc::POSIX_FADV_DONTNEED) {
-        0 => Ok(()),
-        error => Err(io::Error::from_raw_os_error(error)),
+impl StoredFile<OsFile> {
+    /// Locks a file that is open for reading and writing, as
+    /// [`try_lock_raw`](StoredFile::try_lock_raw) does.
+    pub fn try_lock(file: File, limit: usize) -> Result<OsStoredFile, LockFault>
+        ensures unfailed { IfOk result (λ stored. ¬ HasFailed stored) }
+        ensures limit { IfOk result (λ stored. limit_of stored ≡ limit) }
+    {
+        StoredFile::try_lock_raw(OsFile::new(file), limit)
     }
 }
 
-// Returns the fault for an error: `Memory` if out of memory, else `Failed`.
-fn fault_of(error: &io::Error) -> FileFault {
-    match error.kind() {
-        ErrorKind::OutOfMemory => FileFault::Memory,
-        _ => FileFault::Failed,
-    }
-}
+impl<R: RawFile> DurableFile for StoredFile<R> {
+    ghost acts_as_file = { R.acts };
 
-// Returns all bytes of a file, or `TooLong` if there are more than `limit`.
-fn read_within(alloc: Global, file: &mut File, limit: usize) -> Result<Vec<u8>, FileFault>
-    ensures { IfOk result (λ bytes. length bytes.items ≤ limit) }
-{
-    let mut bytes = Vec::new(alloc);
-    file.seek(SeekFrom::Start(0))
-        .map_err(|_| FileFault::Failed)?;
-    let mut input = (&*file).take((limit as u64).saturating_add(1));
-    match input.read_to_end(&mut bytes) {
-        Ok(_) if bytes.len() <= limit => Ok(bytes),
-        Ok(_) => Err(FileFault::TooLong),
-        Err(error) => Err(fault_of(&error)),
-    }
-}
+    ghost identity = { λ f. R.identity f.raw };
 
-// Appends bytes at the end of a file, or returns `TooLong` if it would exceed `limit`.
-fn append_within(file: &mut File, limit: usize, bytes: &[u8]) -> Result<(), FileFault> {
-    let Ok(end) = file.seek(SeekFrom::End(0)) else {
-        return Err(FileFault::Failed);
-    };
-    if end.saturating_add(bytes.len() as u64) > limit as u64 {
-        return Err(FileFault::TooLong);
-    }
-    file.write_all(bytes).map_err(|_| FileFault::Failed)
-}
+    ghost seen = { λ f. seen_of (R.state f.raw) };
 
-impl DurableFile for StoredFile {
-    ghost acts_as_file = { ⊥ };
+    ghost may_leave = { λ f c. LeftNow R.acts (R.state f.raw) c };
 
-    ghost identity = { λ _. 0 };
+    ghost moment = { λ f. R.moment f.raw };
 
-    ghost seen = { λ _. [] };
+    ghost left_since = { λ f t c. R.left_since f.raw t c };
 
-    ghost may_leave = { λ _ _. ⊥ };
-
-    ghost moment = { λ _. 0 };
-
-    ghost left_since = { λ _ _ _. ⊥ };
-
-    ghost stored = { λ _ _. ⊥ };
+    ghost stored = { R.stored };
 
     ghost has_failed = { HasFailed };
 
-    ghost counts_now = { λ file t c le now. now };
+    ghost overflows = { λ f bytes.
+        R.acts → limit_of f < length (seen_of (R.state f.raw)) + length bytes };
 
-    ghost only_now = { λ file c left. left };
+    ghost also = { λ call old new. (limit_of new ≡ limit_of old)
+        × (R.acts → StaysWithin (limit_of old) call (seen_of (R.state old.raw))) };
 
-    #[tactic(auto, using(crate::proofs::PastLemmas::elapses_unclaimed))]
+    ghost counts_now = { λ f t c le now. R.counts_now f.raw t c le now };
+
+    ghost only_now = { λ f c left. R.only_now f.raw c left };
+
     fn read(&mut self, alloc: Global) -> Result<Vec<u8>, FileFault> {
         if self.has_failed {
             return Err(FileFault::Failed);
         }
-        let call = read_within(alloc, &mut self.file, self.limit);
+        let call = read_within(alloc, &mut self.raw, self.limit);
         record_failure(&mut self.has_failed, call)
     }
 
-    #[tactic(auto, using(crate::proofs::PastLemmas::elapses_unclaimed))]
     fn append(&mut self, bytes: &[u8]) -> Result<(), FileFault> {
         if self.has_failed {
             return Err(FileFault::Failed);
         }
-        let call = append_within(&mut self.file, self.limit, bytes);
+        let call = append_within(&mut self.raw, self.limit, bytes);
         record_failure(&mut self.has_failed, call)
     }
 
-    #[tactic(auto, using(crate::proofs::PastLemmas::elapses_unclaimed))]
     fn cut(&mut self, len: usize) -> Result<(), FileFault> {
         if self.has_failed {
             return Err(FileFault::Failed);
         }
-        let call = self.file.set_len(len as u64).map_err(|_| FileFault::Failed);
+        let call = cut_to(&mut self.raw, len);
         record_failure(&mut self.has_failed, call)
     }
 
-    #[tactic(auto, using(crate::proofs::PastLemmas::elapses_unclaimed))]
     fn sync(&mut self) -> Result<(), FileFault> {
         if self.has_failed {
             return Err(FileFault::Failed);
         }
-        let call = self.file.sync_data().map_err(|_| FileFault::Failed);
+        let call = sync_bytes(&mut self.raw);
         record_failure(&mut self.has_failed, call)
     }
 }

@@ -8,7 +8,7 @@ use crate::fault::{FileFault, record_failure};
 use crate::older_files::keep_older;
 use crate::own_file::create_anew;
 use crate::place::Place;
-use crate::stored_file::StoredFile;
+use crate::stored_file::{OsStoredFile, StoredFile};
 use std::alloc::Global;
 use std::fs::{File, Files};
 use std::{fs, io};
@@ -43,7 +43,7 @@ pub struct StoredPlace<R: Files<File = File> + Drop> {
     folder: File,
     paths: PlacePaths,
     limit: usize,
-    file: Option<StoredFile>,
+    file: Option<OsStoredFile>,
     // The file may have got the name by a rename that is not on the disk.
     is_renamed: bool,
     has_failed: bool,
@@ -68,7 +68,7 @@ impl<R: Files<File = File> + Drop> StoredPlace<R> {
 
     /// Gives the place its file, which was opened under its path. A place that has failed remains
     /// failed.
-    pub fn set_file(&mut self, file: StoredFile)
+    pub fn set_file(&mut self, file: OsStoredFile)
         ensures { self.new ≡ with_file self.old file }
     {
         self.file = Some(file);
@@ -81,7 +81,7 @@ fn open_draft<R: Files<File = File>>(
     path: &str,
     mode: u32,
     limit: usize,
-) -> Result<StoredFile, FileFault>
+) -> Result<OsStoredFile, FileFault>
     ensures unfailed { IfOk result (λ draft. ¬ FileHasFailed draft) }
     ensures not_too_long { ¬ IsErrOf result FileFault.TooLong }
 {
@@ -96,7 +96,7 @@ fn replace_file<R: Files<File = File>>(files: &R, paths: &PlacePaths) -> io::Res
 }
 
 // Returns the file of a place, or `Failed` if there is none.
-fn file_of(file: &mut Option<StoredFile>) -> Result<&mut StoredFile, FileFault>
+fn file_of(file: &mut Option<OsStoredFile>) -> Result<&mut OsStoredFile, FileFault>
     ensures { IfErr result (λ fault. fault ≡ FileFault.Failed) }
 {
     match file {
@@ -107,7 +107,7 @@ fn file_of(file: &mut Option<StoredFile>) -> Result<&mut StoredFile, FileFault>
 
 // Syncs the file of a place, and its folder if a rename is not on the disk.
 fn sync_both(
-    file: &mut Option<StoredFile>,
+    file: &mut Option<OsStoredFile>,
     folder: &File,
     is_renamed: bool,
 ) -> Result<(), FileFault>
@@ -189,14 +189,14 @@ impl<R: Files<File = File> + Drop> DurableFile for StoredPlace<R> {
 }
 
 impl<R: Files<File = File> + Drop> Place for StoredPlace<R> {
-    type Draft = StoredFile;
+    type Draft = OsStoredFile;
 
     ghost named = { λ _ _. ⊥ };
 
     ghost drafts_act = { λ acts. acts };
 
     #[tactic(auto, using(crate::proofs::PastLemmas::elapses_unclaimed))]
-    fn create_draft(&mut self) -> Result<StoredFile, FileFault> {
+    fn create_draft(&mut self) -> Result<OsStoredFile, FileFault> {
         if self.has_failed {
             return Err(FileFault::Failed);
         }
@@ -206,7 +206,7 @@ impl<R: Files<File = File> + Drop> Place for StoredPlace<R> {
     }
 
     #[tactic(auto, using(crate::proofs::PastLemmas::elapses_unclaimed))]
-    fn rename(&mut self, draft: StoredFile) -> Result<(), FileFault> {
+    fn rename(&mut self, draft: OsStoredFile) -> Result<(), FileFault> {
         if self.has_failed {
             return Err(FileFault::Failed);
         }

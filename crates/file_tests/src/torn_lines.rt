@@ -1,8 +1,8 @@
 //! Lines in a file after a crash: each torn state of an append, crashes during a recovery, and a
 //! sync that fails; and a file of the operating system.
 use durable_lines::{
-    ByteFate, DurableFile, FileFault, LockFault, MemoryFile, StoredFile, append_lines, damaged_at,
-    is_text, recover,
+    ByteFate, DurableFile, FileFault, LockFault, MemoryFile, OsStoredFile, StoredFile,
+    append_lines, damaged_at, is_text, recover,
 };
 use std::alloc::{AllocError, Global};
 use std::fs::File;
@@ -230,7 +230,7 @@ fn a_file_whose_sync_failed_fails_for_good(rt: HostRuntime) -> Result<(), Fail> 
 
 // Returns whether a file of the operating system with the bytes `a\nb\0` and a limit of 8 bytes is
 // recovered and appended to, and a text that would exceed the limit is refused.
-fn keeps_its_limit(alloc: Global, file: &mut StoredFile) -> bool {
+fn keeps_its_limit(alloc: Global, file: &mut OsStoredFile) -> bool {
     has_text(alloc, file, b"a\n", 2)
         && append(alloc, file, b"bc\n") == Ok(())
         && append(alloc, file, b"def\n") == Err(FileFault::TooLong)

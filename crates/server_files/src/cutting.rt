@@ -1,6 +1,6 @@
 //! Keeps what is cut off a journal.
 use crate::paths::{CUT_SUFFIX, with_suffix};
-use durable_lines::{DurableFile, StoredFile, create_anew, whole_len};
+use durable_lines::{DurableFile, OsStoredFile, create_anew, whole_len};
 use std::alloc::{AllocGlobal, Global};
 use std::fs::{File, Files};
 use std::io;
@@ -8,7 +8,7 @@ use std::io::Write;
 
 // Returns the bytes after the last whole line of a file, which a recovery cuts. Returns none if the
 // file cannot be read; the recovery fails then, too.
-pub(crate) fn end_of(alloc: Global, file: &mut StoredFile) -> Vec<u8> {
+pub(crate) fn end_of(alloc: Global, file: &mut OsStoredFile) -> Vec<u8> {
     let mut end = Vec::new(alloc);
     if let Ok(bytes) = file.read(alloc) {
         let (_, rest) = bytes.as_slice().split_at(whole_len(&bytes));
