@@ -6,7 +6,7 @@
 --     IsStored       it did so for the history of a lock
 --     Leaves         what the worker of a journal leaves of its file
 --     Keeps          what the worker of a journal does
-use Rattle.std.specs.Prelude.{◌≡◌, ℕ, ◌≤◌, List, length, take, IfErr, OnOk, Result}
+use Rattle.std.specs.Prelude.{◌≡◌, ℕ, ◌≤◌, List, length, take, IfErr, IfOk, OnOk, Result}
 use Rattle.durable_lines.specs.CrashModel.{LeavesOnly}
 use Rattle.durable_lines.specs.Holding.{Holds}
 use Rattle.durable_lines.specs.Lines.{lines_in}
@@ -64,7 +64,7 @@ pub record IsStored (Renews : List ℕ → List ℕ → Type 0) (stored : List �
 pub record Leaves {F : Type 0} (identity : F → ℕ) (seen : F → List ℕ)
     (may_leave : F → List ℕ → Type 0) (moment : F → ℕ) (left_since : F → ℕ → List ℕ → Type 0)
     (Renews : List ℕ → List ℕ → Type 0)
-    (began ended : F) (calls : Calls) (end : Result (Unit {0}) JournalFault) : Type 0 where
+    (began ended : F) (calls : Calls) (end : Result ℕ JournalFault) : Type 0 where
   pub one_file : identity ended ≡ identity began
   pub any_moment : LeavesOnly moment left_since began ended
       (IsSavedFrom Renews 0 (lines_in (seen began)) calls)
@@ -73,18 +73,19 @@ pub record Leaves {F : Type 0} (identity : F → ℕ) (seen : F → List ℕ)
 
 -- Whether the journal's worker, whose port was p and is q, ended with this file and this result, and
 -- made no call. It ended without a fault only if the journal may end, which it learns by being asked
--- to stop. Its fault is that of a save: `Turns` only if q has read that all turns were drawn, and
+-- to stop, and then returned the number of lines of the history. Its fault is that of a save: `Turns` only if q has read that all turns were drawn, and
 -- `Failed` only if the file has failed; the action for failures was called with it. The file was
 -- `began`, and is left as `Leaves` states if files of its type act as the crash model has them.
 pub record Keeps {F : Type 0} (acts : Type 0) (identity : F → ℕ) (seen : F → List ℕ)
     (may_leave : F → List ℕ → Type 0) (moment : F → ℕ) (left_since : F → ℕ → List ℕ → Type 0)
     (Renews : List ℕ → List ℕ → Type 0) (has_failed : F → Type 0) (MayEnd : Type 0)
     (HasActed : JournalFault → Type 0) (began : F) (p q : MeterPort)
-    (end : F × Result (Unit {0}) JournalFault) : Type 0 where
+    (end : F × Result ℕ JournalFault) : Type 0 where
   pub same : IsSame p q
   pub watches : Watches IsLegal p.known q.known
   pub one_file : identity end.0 ≡ identity began
   pub may_end : OnOk end.1 MayEnd
+  pub counted : IfOk end.1 (λ count. count ≡ length (lines_of_calls q.known.seen))
   pub acted : IfErr end.1 HasActed
   pub cause : IfErr end.1 (FailsFor (q.bound ≤ q.known.drawn) (has_failed end.0))
   pub leaves : acts

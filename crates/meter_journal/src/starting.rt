@@ -20,7 +20,7 @@ use turn_lock::Port;
 pub type JournalThread<F, A, L> = WorkerThread<
     Kept,
     JournalWorker<F, A, L>,
-    (F, Result<(), JournalFault>),
+    (F, Result<u64, JournalFault>),
 >;
 
 /// Starts a thread for the worker of a journal, with a port split off from this one. Returns `None`
@@ -56,8 +56,8 @@ pub fn start_journal<
 }
 
 /// Asks the worker of a journal to save the lines that have been noted, waits for its end, and
-/// joins its port in. Returns the file and the fault of the journal, if it has failed, or `None` if
-/// the work was not started.
+/// joins its port in. Returns the file, and the number of lines of the history that its port has
+/// seen, or the fault of the journal if it has failed. Returns `None` if the work was not started.
 pub fn stop_journal<
     F: DurableFile + Send,
     A: FailureAction,
@@ -68,7 +68,7 @@ pub fn stop_journal<
     running: JournalThread<F, A, L>,
     progress: &JournalProgress<F, L>,
     port: &mut Port<Kept>,
-) -> Option<(F, Result<(), JournalFault>)>
+) -> Option<(F, Result<u64, JournalFault>)>
     requires lock { running.promise.port.value.lock ≡ port.old.lock }
     requires may_end { L.may_end }
     ensures { let task = running.promise

@@ -87,19 +87,20 @@ impl<F: DurableFile + Send, A: FailureAction, L: JournalIdentity + Send + Sync> 
 
     ghost fits = { λ port. port.lock ≡ L.lock };
 
-    type End = (F, Result<(), JournalFault>);
+    type End = (F, Result<u64, JournalFault>);
 
     ghost did = { λ worker p q end. Keeps F.acts_as_file F.identity F.seen F.may_leave F.moment
         F.left_since
         F.renews F.has_failed L.may_end A.has_acted worker p q end };
 
-    /// Saves lines until the journal is stopped, and returns the file. The error is that of a save.
+    /// Saves lines until the journal is stopped, and returns the file and the number of lines of the
+    /// history, all of which it has. The error is that of a save.
     fn work<W: Wait>(
         self,
         rt: &W,
         alloc: Global,
         port: Port<Kept>,
-    ) -> (Port<Kept>, (F, Result<(), JournalFault>)) {
+    ) -> (Port<Kept>, (F, Result<u64, JournalFault>)) {
         let JournalWorker {
             mut file,
             progress,
@@ -108,9 +109,9 @@ impl<F: DurableFile + Send, A: FailureAction, L: JournalIdentity + Send + Sync> 
         } = self;
         let mut port = port;
         match keep_lines(rt, alloc, &mut port, &mut file, &progress, room) {
-            Ok(()) => {
+            Ok(count) => {
                 progress.end();
-                (port, (file, Ok(())))
+                (port, (file, Ok(count)))
             }
             Err(fault) => {
                 progress.fail(fault);
