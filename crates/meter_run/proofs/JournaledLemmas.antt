@@ -6,27 +6,29 @@ use Rattle.durable_lines.specs.CrashModel.{LeavesOnly}
 use Rattle.durable_lines.proofs.Moments.{begin}
 use Rattle.durable_lines.specs.Lines.{lines_in, IsSettled}
 use Rattle.meter_journal.specs.Faults.{FailsFor, HasFileFailed}
-use Rattle.meter_journal.specs.Saving.{IsFileOf, IsSaved, IsSavedFrom, IsSynced, Keeps}
+use Rattle.meter_journal.specs.Saving.{IsAllSaved, IsFileOf, IsSaved, IsSavedFrom, IsSynced}
+use Rattle.meter_journal.specs.Saving.{Keeps}
 use Rattle.meter_journal.proofs.FaultLemmas.{fails_as}
 use Rattle.meter_journal.proofs.KeepingLemmas.{saved_none}
 use Rattle.meter_journal.proofs.SavingLemmas.{saved_later}
 use Rattle.meter_run.specs.Journaled.{IsFinished, IsKept, IsRun, IsStarted}
 use Rattle.meter_journal.specs.declared.fault.JournalFault.{JournalFault}
 use Rattle.meter_run.specs.Journaled.{ActsOnFailure, CanFail, JournalEnd, fault_of_journal}
-use Rattle.meter_run.specs.Journaled.{file_of_journal}
+use Rattle.meter_run.specs.Journaled.{fault_of_lines, file_of_journal}
 use Rattle.meter_run.specs.Runs.{IsLeftOpen, Traces}
 use Rattle.meter_server.specs.WithSources.{Forecasts, ServesAll}
 use Rattle.meter_server.specs.Journaled.{JournalSteps}
 use Rattle.meter_server.specs.Ports.{PortSteps}
 use Rattle.meter_server.specs.Sessions.{ServesClient}
 use Rattle.program.specs.declared.fault.Fault.TheVariants as fault
-use Rattle.std.specs.Prelude.{⊤, IfSome, IsErrOf, IsSome}
+use Rattle.std.specs.Prelude.{⊤, IfSome, IsErrOf, IsSome, if◌then◌else◌}
+use Rattle.std.proofs.Common.{Bool, true, false, ◌==◌, eqb-true}
 use Rattle.meter_run.proofs.RunLemmas.{AreSilent, none_before, run_of, run_seen, starts_first}
 use Rattle.meter_server.proofs.ServingAllLemmas.{acted_on, counted_by, ended_map, joined_on}
 use Rattle.meter_server.proofs.SessionLemmas.{served_on}
 use Rattle.meter_server.specs.declared.serving_all.Served.{Served}
-use Rattle.port_threads.proofs.Going.{goes_trans, starts_trans}
-use Rattle.port_threads.specs.Ports.{SplitsOff, child}
+use Rattle.port_threads.proofs.Going.{goes_trans, leaf_among, starts_trans}
+use Rattle.port_threads.specs.Ports.{PortContinues, SplitsOff, child}
 use Rattle.port_threads.specs.Workers.{ReturnsPort, EndsWork}
 use Rattle.program.specs.declared.fault.Fault.{Fault}
 use Rattle.relay_core.specs.Opening.{opening_of}
@@ -39,7 +41,8 @@ use Rattle.shared_meter.specs.Calls.{Calls, IsLegal}
 use Rattle.shared_meter.specs.Handed.{MeterPort}
 use Rattle.shared_meter.specs.Pending.{lines_of_calls}
 use Rattle.turn_lock.specs.Calls.{Watches}
-use Rattle.turn_lock.specs.History.{StartsWith, IsLeaf, calls_by}
+use Rattle.turn_lock.specs.History.{StartsWith, IsAmong, IsLeaf, calls_by}
+use Rattle.turn_lock.specs.Shown.{IsSame}
 use Rattle.turn_lock.specs.Rule.{first_known}
 use Rattle.turn_lock.specs.declared.known.Known.{Known}
 
@@ -66,14 +69,28 @@ started_first o p own q first off =
       fresh = off.fresh;
     }
 
+-- a port that has watched is a later state of itself
+goes_watches : (p q : MeterPort) → IsSame p q → Watches IsLegal p.known q.known
+    → PortContinues p q
+goes_watches p q same watches = record {
+  lock = same.lock;
+  bound = same.bound;
+  origin = same.origin;
+  number = same.number;
+  splits = omega (arith, same.splits);
+  drawn = watches.sees.drawn;
+  seen = watches.sees.seen;
+  joined = λ n among. subst (IsAmong n) (sym same.joined) among;
+  leaves = λ n leaf. subst (IsLeaf n) (sym same.joined) leaf;
+  own = watches.sees.own_calls;
+}
+
 -- serving is as it was once a port that was split off before is joined in
-serves_joined : {A : Type 0} (did : Did A) (Serves : MeterPort → MeterPort → Type 0)
-    (sources : Forecasts) (served : Result Served ServeFault) (lent p q after : MeterPort)
-    (end : Option A) → ServesAll Serves sources p q served → ReturnsPort did lent end q after
+serves_joined : (Serves : MeterPort → MeterPort → Type 0) (sources : Forecasts)
+    (served : Result Served ServeFault) (p q after : MeterPort) → PortContinues q after
+    → after.known.splits ≡ q.known.splits → ServesAll Serves sources p q served
     → ServesAll Serves sources p after served
-serves_joined did Serves sources served lent p q after end s back =
-    let on = back.taken.goes in
-    let splits = back.taken.splits in
+serves_joined Serves sources served p q after on splits s =
     record {
       goes = goes_trans p q after s.goes on;
       joined = joined_on q after p.known.splits on splits s.joined;
@@ -114,6 +131,14 @@ silent_first did quiet lent before after end back number unsplit fresh i below =
     ∙ made_none did quiet lent back.back end back.ended ∙ fresh in
     (subst J named (back.taken.leaf (back.same.splits ∙ unsplit)), subst C named theirs)
 
+-- nor has it made one later
+silent_later : (q after : MeterPort) → PortContinues q after → AreSilent 1 q → AreSilent 1 after
+silent_later q after goes silent i below =
+    let before = silent i below in (
+      goes.leaves (i ∷ []) before.0,
+      goes.own (i ∷ []) (inr (leaf_among (i ∷ []) q.known.joined before.0)) ∙ before.1,
+    )
+
 -- a crash that leaves the lines of a history leaves those of a longer one
 leaves_later : {F : Type 0} (moment : F → ℕ) (left_since : F → ℕ → List ℕ → Type 0)
     (Renews : List ℕ → List ℕ → Type 0) (began ended : F) (first : List (List ℕ))
@@ -133,17 +158,42 @@ leaves_later moment left_since Renews began ended first before after longer leav
       ];
     }
 
+-- the fault of a journal that has all lines of its run, or not
+abbrev fault_if : Bool → Result (Unit {0}) Fault
+fault_if all = if all then Ok tt else Err fault.Memory
+
+-- a fact of a journal that has all lines of its run
+if_all : (b : Bool) (count lines : ℕ) (P : Type 0) → (count == lines) ≡ b → (count ≡ lines → P)
+    → OnOk (fault_if b) P
+if_all true count lines P is so = so (eqb-true count lines is)
+if_all false count lines P is so = tt
+
+if_equal : (count lines : ℕ) (P : Type 0) → (count ≡ lines → P)
+    → OnOk (fault_of_lines count (Some lines)) P
+if_equal count lines P so = if_all (count == lines) count lines P refl so
+
+-- the action for failures is not owed by a journal that lacks lines
+no_fault : (HasActed CanHave : JournalFault → Type 0) (b : Bool)
+    → ActsOnFailure HasActed CanHave (fault_if b)
+no_fault HasActed CanHave true = tt
+no_fault HasActed CanHave false = tt
+
+no_action : (HasActed CanHave : JournalFault → Type 0) (count : ℕ) (lines : Option ℕ)
+    → ActsOnFailure HasActed CanHave (fault_of_lines count lines)
+no_action HasActed CanHave count None = tt
+no_action HasActed CanHave count (Some lines) = no_fault HasActed CanHave (count == lines)
+
 -- what the worker of a journal did: it made no call, and its file has a front of the lines
 module _ {F : Type 0} (acts : Type 0) (identity : F → ℕ) (seen : F → List ℕ)
     (may_leave : F → List ℕ → Type 0) (moment : F → ℕ) (left_since : F → ℕ → List ℕ → Type 0)
     (stored : ℕ → List ℕ → Type 0)
     (Renews : List ℕ → List ℕ → Type 0) (has_failed : F → Type 0) (MayEnd : Type 0)
     (HasActed : JournalFault → Type 0) (file : F) where
-  abbrev JournalDid : Did (F × Result (Unit {0}) JournalFault)
+  abbrev JournalDid : Did (F × Result ℕ JournalFault)
   JournalDid =
       Keeps acts identity seen may_leave moment left_since Renews has_failed MayEnd HasActed file
 
-  quiet : (p q : MeterPort) (end : F × Result (Unit {0}) JournalFault) → JournalDid p q end
+  quiet : (p q : MeterPort) (end : F × Result ℕ JournalFault) → JournalDid p q end
       → Watches IsLegal p.known q.known
   quiet p q end worked = worked.watches
 
@@ -152,35 +202,57 @@ module _ {F : Type 0} (acts : Type 0) (identity : F → ℕ) (seen : F → List 
   KeptBy calls journal now =
       IsKept acts identity seen may_leave moment left_since stored Renews file calls journal now
 
+  -- a file with as many lines as a longer history has all of its lines
+  all_saved : (back : MeterPort) (calls : Calls) (now : F) (count : ℕ) (lines : Option ℕ)
+      → StartsWith calls back.known.seen
+      → count ≡ length (lines_of_calls back.known.seen)
+      → IfSome lines (λ number. number ≡ length (lines_of_calls calls))
+      → ((c : List ℕ) → may_leave now c
+      → IsAllSaved Renews (lines_in (seen file)) back.known.seen c)
+      → OnOk (fault_of_lines count lines)
+      ((c : List ℕ) → may_leave now c → IsAllSaved Renews (lines_in (seen file)) calls c)
+  all_saved back calls now count None longer counted known kept = tt
+  all_saved back calls now count (Some number) longer counted known kept =
+      if_equal count number
+      ((c : List ℕ) → may_leave now c → IsAllSaved Renews (lines_in (seen file)) calls c)
+      (λ same c left. subst (λ n. IsSaved Renews (lines_in (seen file)) n calls c)
+      (sym counted ∙ same ∙ known)
+      (saved_later Renews (lines_in (seen file)) (length (lines_of_calls back.known.seen))
+      back.known.seen calls c longer (kept c left)))
+
   -- the file that the worker returns, and the lines of a longer history
-  kept_by : (lent back : MeterPort) (end : JournalEnd F) (calls : Calls)
-      → StartsWith calls back.known.seen → EndsWork JournalDid lent back end → acts
-      → IfSome (file_of_journal end) (KeptBy calls (fault_of_journal end))
-  kept_by lent back None calls longer same a = tt
-  kept_by lent back (Some (now, Err fault)) calls longer worked a =
+  kept_by : (lent back : MeterPort) (end : JournalEnd F) (lines : Option ℕ) (calls : Calls)
+      → StartsWith calls back.known.seen
+      → IfSome lines (λ number. number ≡ length (lines_of_calls calls))
+      → EndsWork JournalDid lent back end → acts
+      → IfSome (file_of_journal end) (KeptBy calls (fault_of_journal end lines))
+  kept_by lent back None lines calls longer known same a = tt
+  kept_by lent back (Some (now, Err fault)) lines calls longer known worked a =
       let kept = worked.leaves a in record {
         one_file = kept.one_file;
         any_moment = leaves_later moment left_since Renews file now (lines_in (seen file))
             back.known.seen calls longer kept.any_moment;
-        front = tt;
+        all = tt;
       }
-  kept_by lent back (Some (now, Ok done)) calls longer worked a =
+  kept_by lent back (Some (now, Ok count)) lines calls longer known worked a =
       let kept = worked.leaves a in record {
         one_file = kept.one_file;
         any_moment = leaves_later moment left_since Renews file now (lines_in (seen file))
             back.known.seen calls longer kept.any_moment;
-        front = (
-          length (lines_of_calls back.known.seen),
-          λ c left. saved_later Renews (lines_in (seen file))
-              (length (lines_of_calls back.known.seen)) back.known.seen calls c longer
-              (kept.all c left),
-        );
+        all = all_saved back calls now count lines longer worked.counted known kept.all;
       }
 
-  returned_by : (end : JournalEnd F) → OnOk (fault_of_journal end) (IsSome (file_of_journal end))
-  returned_by None = tt
-  returned_by (Some (now, Ok done)) = refl
-  returned_by (Some (now, Err fault)) = tt
+  returned_lines : (count : ℕ) (lines : Option ℕ) (now : F)
+      → OnOk (fault_of_lines count lines) (IsSome (Some now))
+  returned_lines count None now = tt
+  returned_lines count (Some number) now =
+      if_equal count number (IsSome (Some now)) (λ same. refl)
+
+  returned_by : (end : JournalEnd F) (lines : Option ℕ)
+      → OnOk (fault_of_journal end lines) (IsSome (file_of_journal end))
+  returned_by None lines = tt
+  returned_by (Some (now, Ok count)) lines = returned_lines count lines now
+  returned_by (Some (now, Err fault)) lines = tt
 
   module _ {I O : Type 0} (remaining : I → Option (List ℕ)) (contents : O → Option (List ℕ))
       (HasEnded : Type 0) (password : List ℕ) where
@@ -211,28 +283,41 @@ module _ {F : Type 0} (acts : Type 0) (identity : F → ℕ) (seen : F → List 
         finished =
         let after = finished.after in
         let back = finished.back in
-        let silent : AreSilent 1 after = silent_first JournalDid quiet lent q after finished.end
-        back started.number started.unsplit started.fresh in
-        let all = serves_joined JournalDid Answers sources served lent p q after finished.end
-        serves back in
+        let on = goes_watches finished.joined after finished.same finished.watches in
+        let goes = goes_trans q finished.joined after back.taken.goes on in
+        let silent : AreSilent 1 after = silent_later finished.joined after on
+        (silent_first JournalDid quiet lent q finished.joined finished.end
+        back started.number started.unsplit started.fresh) in
+        let all = serves_joined Answers sources served p q after goes
+        (finished.same.splits ∙ back.taken.splits) serves in
         let run = run_of 1 Answers recorder sources served text p after (opening_of recorder.core)
         started.starts refl silent all finished.traces in
+        let is_seen : run.calls ≡ after.known.seen =
+        run_seen 1 Answers recorder sources served text p after (opening_of recorder.core)
+        started.starts refl silent all finished.traces in
         let longer : StartsWith run.calls back.back.known.seen =
-        starts_trans back.back.known.seen after.known.seen run.calls back.taken.told
-        (run_seen 1 Answers recorder sources served text p after (opening_of recorder.core)
-        started.starts refl silent all finished.traces) in
+        subst (λ (cs : Calls). StartsWith cs back.back.known.seen) (sym is_seen)
+        (starts_trans back.back.known.seen finished.joined.known.seen after.known.seen
+        back.taken.told finished.watches.sees.seen) in
+        let known : IfSome finished.lines (λ number. number ≡ length (lines_of_calls run.calls)) =
+        subst
+        (λ (cs : Calls). IfSome finished.lines (λ number. number ≡ length (lines_of_calls cs)))
+        (sym is_seen) finished.counted in
         record {
           run = run;
           returned = subst (λ (j : Result (Unit {0}) Fault). OnOk j (IsSome ended))
               (sym finished.fault)
-              (subst (λ (f : Option F). OnOk (fault_of_journal finished.end) (IsSome f))
-              (sym finished.file) (returned_by finished.end));
+              (subst
+              (λ (f : Option F). OnOk (fault_of_journal finished.end finished.lines) (IsSome f))
+              (sym finished.file) (returned_by finished.end finished.lines));
           kept = λ a. subst (λ (j : Result (Unit {0}) Fault). IfSome ended (KeptBy run.calls j))
               (sym finished.fault)
               (subst
-              (λ (f : Option F). IfSome f (KeptBy run.calls (fault_of_journal finished.end)))
+              (λ (f : Option F). IfSome f
+              (KeptBy run.calls (fault_of_journal finished.end finished.lines)))
               (sym finished.file)
-              (kept_by lent back.back finished.end run.calls longer back.ended a));
+              (kept_by lent back.back finished.end finished.lines run.calls longer known back.ended
+              a));
         }
 
     -- a run is one also by an equal file, that of the worker, and by handles of that file
@@ -274,17 +359,20 @@ module _ {F : Type 0} (acts : Type 0) (identity : F → ℕ) (seen : F → List 
         ended = q;
         serves = serves;
         closing = finished.after;
-        goes = finished.back.taken.goes;
+        goes = goes_trans q finished.joined finished.after finished.back.taken.goes
+            (goes_watches finished.joined finished.after finished.same finished.watches);
         finds = finished.still_out busy;
       }
 
   -- the action for failures was called by a worker that failed
-  acts_by : (lent back : MeterPort) (end : JournalEnd F)
+  acts_by : (lent back : MeterPort) (end : JournalEnd F) (lines : Option ℕ)
       → EndsWork JournalDid lent back end
-      → ActsOnFailure HasActed (CanFail has_failed (file_of_journal end)) (fault_of_journal end)
-  acts_by lent back None same = tt
-  acts_by lent back (Some (now, Ok done)) worked = tt
-  acts_by lent back (Some (now, Err stopped)) worked = (
+      → ActsOnFailure HasActed (CanFail has_failed (file_of_journal end))
+      (fault_of_journal end lines)
+  acts_by lent back None lines same = tt
+  acts_by lent back (Some (now, Ok count)) lines worked =
+      no_action HasActed (CanFail has_failed (Some now)) count lines
+  acts_by lent back (Some (now, Err stopped)) lines worked = (
     stopped,
     worked.acted,
     fails_as (back.bound ≤ back.known.drawn) (has_failed now) ⊤ (has_failed now) stopped
@@ -300,8 +388,9 @@ module _ {F : Type 0} (acts : Type 0) (identity : F → ℕ) (seen : F → List 
       (sym finished.fault)
       (subst
       (λ (f : Option F). ActsOnFailure HasActed (CanFail has_failed f)
-      (fault_of_journal finished.end))
-      (sym finished.file) (acts_by lent finished.back.back finished.end finished.back.ended))
+      (fault_of_journal finished.end finished.lines))
+      (sym finished.file)
+      (acts_by lent finished.back.back finished.end finished.lines finished.back.ended))
 
   -- and by the worker of an equal file
   pub acts_once_finished : (lent before : MeterPort) (trace : Result (List ℕ) Fault)

@@ -23,11 +23,13 @@ use Rattle.relay_recorder.specs.Recording.{Recording}
 use Rattle.session_io.specs.declared.fault.ServeFault.{ServeFault}
 use Rattle.port_threads.proofs.Going.{goes_refl, leaf_among, leaf_below}
 use Rattle.std.proofs.lemmas.Bool.{cases_lt}
-use Rattle.std.proofs.Common.{◌≢◌}
+use Rattle.std.proofs.Common.{◌≢◌, Bool, append-nil, length, length-append}
+use Rattle.std.specs.Prelude.{if◌then◌else◌}
 use Rattle.turn_lock.specs.declared.known.Known.{Known}
 use Rattle.turn_lock.specs.Calls.{Yields}
-use Rattle.turn_lock.specs.History.{StartsWith, IsAmong, IsLeaf, calls_by}
-use Rattle.turn_lock.specs.Rule.{first_known}
+use Rattle.turn_lock.specs.History.{IsAmong, IsLeaf, calls_by}
+use Rattle.turn_lock.proofs.Lists.{calls_by-append, calls_none, is_same_number-refl}
+use Rattle.turn_lock.specs.Rule.{IsUnused, first_known}
 use Rattle.turn_lock.specs.declared.turned.Entry.{Entry}
 
 -- the calls of a port that was joined are the same in the whole history
@@ -70,6 +72,14 @@ source_whole q kept y served number named Whole same acted = ended_map served (A
     (Whole (events_in named y.history)) (acted_whole q kept y named Whole)
     (subst (λ (n : List ℕ). OnEnded served (Acted q n Whole)) same acted)
 
+-- a number that no port has has no call, in what the port has seen neither
+unused_calls : (q : MeterPort) (kept : KeptRecorder)
+    (y : Yields (λ (x : KeptRecorder). x.origin) Stands IsLegal q.known kept) (number : List ℕ)
+    → IsUnused q.known number → calls_by number y.history ≡ calls_by number q.known.seen
+unused_calls q kept y number unused =
+    let none = y.unused number unused in
+    none ∙ sym (calls_none number y.history q.known.seen y.seen none)
+
 -- no other port has made a call
 others_none : (q : MeterPort) (kept : KeptRecorder)
     (y : Yields (λ (x : KeptRecorder). x.origin) Stands IsLegal q.known kept)
@@ -96,6 +106,60 @@ others_none q kept y root own joined (i ∷ j ∷ rest) other = elim (cases_lt i
     later = high;
   })
 ]
+
+-- the calls of each port are the same in the whole history
+same_calls : (q : MeterPort) (kept : KeptRecorder)
+    (y : Yields (λ (x : KeptRecorder). x.origin) Stands IsLegal q.known kept)
+    → q.known.number ≡ []
+    → ((i : ℕ) → i < q.known.splits → IsLeaf (i ∷ []) q.known.joined)
+    → (number : List ℕ) → calls_by number y.history ≡ calls_by number q.known.seen
+same_calls q kept y root joined [] = y.own_calls [] (inl (sym root))
+same_calls q kept y root joined (i ∷ []) = elim (cases_lt i q.known.splits) [
+  | inl low ↦ y.own_calls (i ∷ []) (inr (leaf_among (i ∷ []) q.known.joined (joined i low)))
+  | inr high ↦ unused_calls q kept y (i ∷ []) (inl record {
+    count = i;
+    rest = [];
+    number_is = ap (λ (n : List ℕ). n ++ i ∷ []) (sym root);
+    later = high;
+  })
+]
+same_calls q kept y root joined (i ∷ j ∷ rest) = elim (cases_lt i q.known.splits) [
+  | inl low ↦ unused_calls q kept y (i ∷ j ∷ rest)
+      (inr (leaf_below (i ∷ []) j rest q.known.joined (joined i low)))
+  | inr high ↦ unused_calls q kept y (i ∷ j ∷ rest) (inl record {
+    count = i;
+    rest = j ∷ rest;
+    number_is = ap (λ (n : List ℕ). n ++ i ∷ j ∷ rest) (sym root);
+    later = high;
+  })
+]
+
+-- no further call came after those that the port has seen
+no_more : (seen rest history : Calls) → history ≡ seen ++ rest
+    → ((number : List ℕ) → calls_by number history ≡ calls_by number seen) → history ≡ seen
+no_more seen [] history all same = all ∙ append-nil seen
+no_more seen (call ∷ rest) history all same =
+    let by = call.by in
+    let further : calls_by by (call ∷ rest) ≡ call ∷ calls_by by rest =
+    ap (λ (b : Bool). if b then call ∷ calls_by by rest else calls_by by rest)
+    (is_same_number-refl by) in
+    let split : calls_by by seen ≡ calls_by by seen ++ call ∷ calls_by by rest =
+    sym (same by) ∙ ap (calls_by by) all ∙ calls_by-append by seen (call ∷ rest)
+    ∙ ap (λ (cs : Calls). calls_by by seen ++ cs) further in
+    absurd (omega (
+      arith,
+      ap length split,
+      length-append (calls_by by seen) (call ∷ calls_by by rest),
+    ))
+
+-- once each port that was split off was joined in, the port has seen the whole history
+pub whole_history : (q : MeterPort) (kept : KeptRecorder)
+    (y : Yields (λ (x : KeptRecorder). x.origin) Stands IsLegal q.known kept)
+    → q.known.number ≡ []
+    → ((i : ℕ) → i < q.known.splits → IsLeaf (i ∷ []) q.known.joined)
+    → y.history ≡ q.known.seen
+whole_history q kept y root joined =
+    no_more q.known.seen y.seen.0 y.history y.seen.1 (same_calls q kept y root joined)
 
 -- each port that was split off was joined in: those before the sources, and the others
 all_joined : (first : ℕ) (Serves : MeterPort → MeterPort → Type 0) (o : Opening) (p q : MeterPort)
@@ -164,18 +228,18 @@ run_of first Serves recorder sources served text p q o start is silent serves tr
       traced = traces.traced;
     }
 
--- the calls of a run begin with those that its port has seen
+-- the calls of a run are those that its port has seen
 pub run_seen : (first : ℕ) (Serves : MeterPort → MeterPort → Type 0) (recorder : Recording)
     (sources : Forecasts) (served : Result Served ServeFault) (text : List ℕ) (p q : MeterPort)
     (o : Opening) → (start : StartsFrom first o p) (is : o ≡ opening_of recorder.core)
     (silent : AreSilent first q) (serves : ServesAll Serves sources p q served)
     (traces : Traces q.known text)
-    → StartsWith
-    (run_of first Serves recorder sources served text p q o start is silent serves traces).calls
-    q.known.seen
+    → (run_of first Serves recorder sources served text p q o start is silent serves traces).calls
+    ≡ q.known.seen
 unfolding run_of
 run_seen first Serves recorder sources served text p q o start is silent serves traces =
-    traces.yields.seen
+    whole_history q traces.kept traces.yields (serves.goes.number ∙ start.number)
+    (all_joined first Serves o p q sources served start silent serves)
 
 -- the first port of a lock
 pub starts_first : (o : Opening) (p : MeterPort) → p.known ≡ first_known o → StartsFrom 0 o p

@@ -1,5 +1,4 @@
 -- One run of a meter that may have a journal.
---     LeavesFront         the lines that every crash after a run leaves
 --     IsOnDisk            lines of a history that are on the disk
 --     session_steps       the steps of a session's port
 --     file_in             the file of a journal
@@ -10,15 +9,18 @@
 --     IsStarted           the port of the journal's worker
 --     CanFail             why the journal may have failed
 --     ActsOnFailure       what is done if the journal fails, and with which fault
+--     fault_of_lines      the fault of a journal that has some of the lines
+--     fault_of_worker     the fault of a journal whose worker was started
 --     fault_of_journal    the fault of a journal
 --     file_of_journal     the file that its worker returns
 --     IsFinished          how a run ends
-use Rattle.std.specs.Prelude.{◌≡◌, ℕ, List, [], ◌∷◌, Option, Some, None, Result, Ok, Err}
+use Rattle.std.specs.Prelude.{◌≡◌, ℕ, List, [], ◌∷◌, Option, Some, None, Result, Ok, Err, length}
+use Rattle.std.specs.Prelude.{if◌then◌else◌, ◌==◌}
 use Rattle.std.specs.Prelude.{⊤, IfOk, IfSome, IsErrOf, IsSome, IsSomeAnd, OnOk}
 use Rattle.durable_lines.specs.CrashModel.{LeavesOnly}
 use Rattle.durable_lines.specs.Lines.{lines_in}
 use Rattle.meter_journal.specs.Faults.{EndsFor, FailsFor}
-use Rattle.meter_journal.specs.Saving.{IsSaved, IsSavedFrom, IsSynced}
+use Rattle.meter_journal.specs.Saving.{IsAllSaved, IsSavedFrom, IsSynced}
 use Rattle.meter_journal.specs.declared.fault.JournalFault.{JournalFault}
 use Rattle.meter_run.specs.Closing.{FindsTurn}
 use Rattle.meter_run.specs.Runs.{IsRunFrom, StartsFrom, Traces}
@@ -37,17 +39,13 @@ use Rattle.relay_events.specs.declared.event.Event.{Event}
 use Rattle.relay_events.specs.declared.reply.Reply.{Reply}
 use Rattle.relay_recorder.specs.Recording.{Recording}
 use Rattle.session_io.specs.declared.fault.ServeFault.{ServeFault}
-use Rattle.shared_meter.specs.Calls.{Calls}
+use Rattle.shared_meter.specs.Calls.{Calls, IsLegal}
 use Rattle.shared_meter.specs.Handed.{MeterPort}
+use Rattle.shared_meter.specs.Pending.{lines_of_calls}
+use Rattle.turn_lock.specs.Calls.{Watches}
+use Rattle.turn_lock.specs.Shown.{IsSame}
 use Rattle.turn_lock.specs.History.{calls_by}
 use Rattle.turn_lock.specs.declared.call_fault.CallFault.{CallFault}
-
--- whether every crash leaves the lines that the file had first, followed by the same front of the
--- lines of the history
-abbrev pub LeavesFront : (may_leave : List ℕ → Type 0) → (Renews : List ℕ → List ℕ → Type 0)
-    → (first : List (List ℕ)) → Calls → Type 0
-LeavesFront may_leave Renews first calls =
-    (n : ℕ) × ((c : List ℕ) → may_leave c → IsSaved Renews first n calls c)
 
 -- the file of a journal, if there is one
 abbrev pub file_in : {F A : Type 0} → Option (MeterJournal F A) → Option F
@@ -84,13 +82,14 @@ module _ {F : Type 0} (acts : Type 0) (identity : F → ℕ) (seen : F → List 
   -- Whether a journal's file is what a run with these calls left of it. A crash at any moment up to
   -- now leaves a file that holds the lines that it had first, followed by a front of the lines of
   -- the calls, however often it was renewed. If the journal has not failed, every crash after the
-  -- run leaves the same front.
+  -- run leaves all lines of the calls.
   pub record IsKept (began : F) (calls : Calls) (journal : Result (Unit {0}) Fault) (now : F)
       : Type 0 where
     pub one_file : identity now ≡ identity began
     pub any_moment : LeavesOnly moment left_since began now
         (IsSavedFrom Renews 0 (lines_in (seen began)) calls)
-    pub front : OnOk journal (LeavesFront (may_leave now) Renews (lines_in (seen began)) calls)
+    pub all : OnOk journal
+        ((c : List ℕ) → may_leave now c → IsAllSaved Renews (lines_in (seen began)) calls c)
 
   -- Whether this is a run of the meter with this recorder. Each session read a client's bytes and
   -- wrote the answers to it, and each call of its port is one of the `session_steps`. With a
@@ -129,31 +128,49 @@ ActsOnFailure HasActed CanFail (Err fault.Write) =
     (why : JournalFault) × HasActed why × CanFail why
 ActsOnFailure HasActed CanFail _ = ⊤
 
--- the end of a journal's worker: its file, and the fault of a save if there was one
+-- the end of a journal's worker: its file, and the number of lines that it has saved, or the fault
+-- of a save
 abbrev pub JournalEnd : Type 0 → Type 0
-JournalEnd F = Option (F × Result (Unit {0}) JournalFault)
+JournalEnd F = Option (F × Result ℕ JournalFault)
 
--- the fault of a journal by the end of its worker, or by its absence
-abbrev pub fault_of_journal : {F : Type 0} → JournalEnd F → Result (Unit {0}) Fault
-fault_of_journal None = Err fault.Memory
-fault_of_journal (Some (file, Ok done)) = Ok tt
-fault_of_journal (Some (file, Err stopped)) = Err fault.Write
+-- the fault of a journal whose worker has saved this number of lines, by the number of lines of the
+-- run, if that is known: none if these are all
+abbrev pub fault_of_lines : ℕ → Option ℕ → Result (Unit {0}) Fault
+fault_of_lines count None = Err fault.Memory
+fault_of_lines count (Some lines) = if count == lines then Ok tt else Err fault.Memory
+
+-- the fault of a journal by the result of its worker, and by the number of lines of the run
+abbrev pub fault_of_worker : Result ℕ JournalFault → (lines : Option ℕ) → Result (Unit {0}) Fault
+fault_of_worker (Ok count) lines = fault_of_lines count lines
+fault_of_worker (Err stopped) lines = Err fault.Write
+
+-- the same by the end of the worker, or by its absence
+abbrev pub fault_of_journal : {F : Type 0} → JournalEnd F → (lines : Option ℕ)
+    → Result (Unit {0}) Fault
+fault_of_journal None lines = Err fault.Memory
+fault_of_journal (Some (file, saved)) lines = fault_of_worker saved lines
 
 -- the file that the worker of a journal has returned
 abbrev pub file_of_journal : {F : Type 0} → JournalEnd F → Option F
 file_of_journal None = None
 file_of_journal (Some (file, end)) = Some file
 
--- Whether the port that was lent to the journal's worker was joined into the port `before`, and
--- then the trace was written. The result of the journal is that of its worker.
+-- Whether the port that was lent to the journal's worker was joined into the port `before`. Then the
+-- lines of the history were counted, and the trace was written. The result of the journal is that of
+-- its worker, unless the numbers of lines differ.
 pub record IsFinished {F : Type 0}
-    (did : MeterPort → MeterPort → F × Result (Unit {0}) JournalFault → Type 0)
+    (did : MeterPort → MeterPort → F × Result ℕ JournalFault → Type 0)
     (lent before : MeterPort) (trace : Result (List ℕ) Fault) (journal : Result (Unit {0}) Fault)
     (ended : Option F) : Type 0 where
   pub end : JournalEnd F
-  pub fault : journal ≡ fault_of_journal end
+  pub lines : Option ℕ
+  pub fault : journal ≡ fault_of_journal end lines
   pub file : ended ≡ file_of_journal end
+  pub joined : MeterPort
+  pub back : ReturnsPort did lent end before joined
   pub after : MeterPort
-  pub back : ReturnsPort did lent end before after
+  pub same : IsSame joined after
+  pub watches : Watches IsLegal joined.known after.known
+  pub counted : IfSome lines (λ count. count ≡ length (lines_of_calls after.known.seen))
   pub traces : IfOk trace (Traces after.known)
   pub still_out : IsErrOf trace Turns → FindsTurn after.known

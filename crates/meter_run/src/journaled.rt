@@ -1,5 +1,5 @@
 //! A run with a journal: each event is on the disk before it is answered.
-ghost use Rattle.std.specs.Prelude.{◌≡◌, ◌⊎◌, ⊤, ◌+◌, [], Err, Some, IfOk, IfErr, IsErrOf, IfSome};
+ghost use Rattle.std.specs.Prelude.{◌≡◌, ◌⊎◌, ⊤, ◌+◌, [], Err, Some, IfOk, IfErr, IsErrOf, IfSome, length};
 ghost use Rattle.acse_ber.specs.Password.{IsPassword};
 ghost use Rattle.durable_lines.specs.Lines.{lines_in, IsSettled};
 ghost use Rattle.meter_journal.specs.Faults.{EndsFor, IsSaveFault};
@@ -7,7 +7,8 @@ ghost use Rattle.meter_journal.specs.Saving.{IsFileOf, IsSynced, Keeps};
 ghost use Rattle.meter_journal.specs.declared.fault.JournalFault.{JournalFault};
 ghost use Rattle.meter_run.specs.Journaled.{AnyEnd, CanFail, IsFinished, IsRun, IsStarted};
 ghost use Rattle.meter_run.specs.Journaled.{session_steps};
-ghost use Rattle.meter_run.specs.Journaled.{ActsOnFailure, fault_of_journal, file_of_journal};
+ghost use Rattle.meter_run.specs.Journaled.{ActsOnFailure, fault_of_journal, fault_of_worker};
+ghost use Rattle.meter_run.specs.Journaled.{file_of_journal};
 ghost use Rattle.meter_run.specs.Runs.{IsLeftOpen};
 ghost use Rattle.meter_server.specs.Journaled.{JournalSteps};
 ghost use Rattle.meter_server.specs.ServingAll.{Accounts, counts_of};
@@ -17,7 +18,11 @@ ghost use Rattle.session_io.specs.declared.fault.ServeFault.TheVariants as fault
 ghost use Rattle.relay_core.specs.Opening.{opening_of};
 ghost use Rattle.relay_core.specs.declared.opening.Opening.{Opening};
 ghost use Rattle.relay_recorder.specs.Recording.{Recording};
+ghost use Rattle.shared_meter.specs.Calls.{IsLegal};
+ghost use Rattle.shared_meter.specs.Pending.{lines_of_calls};
+ghost use Rattle.turn_lock.specs.Calls.{Watches};
 ghost use Rattle.turn_lock.specs.Rule.{first_known};
+ghost use Rattle.turn_lock.specs.Shown.{IsSame};
 
 use crate::running::{MeterRun, RunTerms, close_and_export, lock, no_run};
 use cosem_axdr::Octets;
@@ -29,7 +34,7 @@ use meter_journal::{
 use meter_server::{ClientTerms, Listener, OwnSources, serve};
 use program::Fault;
 use relay_recorder::Recorder;
-use shared_meter::{Durability, Kept, PendingLines};
+use shared_meter::{Durability, Finding, Kept, PendingLines, Question};
 use std::alloc::{AllocError, Global};
 use std::marker::Brand;
 use std::sync::Wait;
@@ -129,23 +134,60 @@ fn start<
     })
 }
 
-// Returns the fault of a journal by the end of its worker, and its file.
+// Returns the number of lines of the history that the port then knows. Returns `None` if all turns
+// were drawn, or a line was lost.
+fn count_lines<W: Wait>(rt: &W, alloc: Global, port: &mut Port<Kept>) -> Option<u64>
+    ensures same { IsSame port.old port.new }
+    ensures watches { Watches IsLegal port.old.known port.new.known }
+    ensures count { IfSome result
+        (λ count. count ≡ length (lines_of_calls port.new.known.seen)) }
+{
+    match port.inspect(rt, alloc, Question::Count) {
+        Some(Finding::Count(count)) => Some(count),
+        Some(Finding::Taken { text, count: _ }) => {
+            drop(text);
+            None
+        }
+        Some(Finding::Incomplete) | None => None,
+    }
+}
+
+// Returns the fault of a journal by the result of its worker, which has saved a number of lines, and
+// by the number of lines of the run.
+fn fault_of(saved: Result<u64, JournalFault>, lines: Option<u64>) -> Result<(), Fault>
+    ensures fault { result ≡ fault_of_worker saved lines }
+    ensures err { IfErr result (λ fault. (fault ≡ Write) ⊎ (fault ≡ Memory)) }
+{
+    match (saved, lines) {
+        (Ok(count), Some(lines)) if count == lines => Ok(()),
+        (Ok(_), _) => Err(Fault::Memory),
+        (Err(_), _) => Err(Fault::Write),
+    }
+}
+
+// Returns the fault of a journal by the end of its worker and by the number of lines of the run,
+// and its file.
 fn journal_end<F: Drop>(
-    end: Option<(F, Result<(), JournalFault>)>,
+    end: Option<(F, Result<u64, JournalFault>)>,
+    lines: Option<u64>,
 ) -> (Result<(), Fault>, Option<F>)
-    ensures fault { result.0 ≡ fault_of_journal end }
+    ensures fault { result.0 ≡ fault_of_journal end lines }
     ensures file { result.1 ≡ file_of_journal end }
     ensures err { IfErr result.0 (λ fault. (fault ≡ Write) ⊎ (fault ≡ Memory)) }
 {
     match end {
-        Some((file, Ok(()))) => (Ok(()), Some(file)),
-        Some((file, Err(_))) => (Err(Fault::Write), Some(file)),
+        Some((file, saved)) => (fault_of(saved, lines), Some(file)),
         None => (Err(Fault::Memory), None),
     }
 }
 
 // Stops the journal once it has written all lines, closes the lock, and writes the trace.
-fn finish<F: DurableFile + Send, A: FailureAction, L: JournalIdentity + Send + Sync, R: Threads>(
+fn finish<
+    F: DurableFile + Send,
+    A: FailureAction,
+    L: JournalIdentity + Send + Sync,
+    R: Threads + Wait,
+>(
     rt: &R,
     alloc: Global,
     shared: Shared<Kept>,
@@ -165,7 +207,8 @@ fn finish<F: DurableFile + Send, A: FailureAction, L: JournalIdentity + Send + S
 {
     let end = stop_journal(rt, running, &progress, &mut port);
     drop(progress);
-    let (journal, file) = journal_end(end);
+    let lines = count_lines(rt, alloc, &mut port);
+    let (journal, file) = journal_end(end, lines);
     (close_and_export(alloc, shared, port), journal, file)
 }
 
