@@ -1,4 +1,5 @@
 pub mod AppendLemmas
+pub mod FolderLemmas
 pub mod HoldingLemmas
 pub mod LineLemmas
 pub mod Moments

@@ -1,12 +1,12 @@
--- Writes at the end of a raw file, one after another.
-use Rattle.std.proofs.Common.{◌≡◌, ◌⊎◌, inl, inr, ⊎_elim, ℕ, ◌≤◌, List, [], ◌∷◌, ◌++◌, refl, sym, ◌∙◌}
-use Rattle.std.proofs.Common.{ap, subst, arith, append_assoc, append-nil, take, drop, take-append-drop}
+-- Calls on a raw file, one after another: writes at its end, reads, a cut, a sync.
+use Rattle.std.proofs.Common.{◌≡◌, ◌⊎◌, inl, inr, ⊎_elim, ℕ, ◌+◌, ◌<◌, ◌≤◌, List, [], ◌∷◌, ◌++◌}
+use Rattle.std.proofs.Common.{length, take, drop, refl, sym, ◌∙◌, ap, subst, arith, append_assoc}
+use Rattle.std.proofs.Common.{append-nil, length-append, take-append-drop}
+use Rattle.std.proofs.Math.Seq.{drop-append_seam}
+use Rattle.std.proofs.lemmas.List.{nil_from_length}
 use Rattle.durable_lines.specs.CrashModel.{Elapses, Follows, IsTorn, Narrows, HasOneOutcome}
 use Rattle.durable_lines.specs.CrashModel.{TornAppend, TornCut}
 use Rattle.durable_lines.specs.FileState.{State, synced_with, IsLeft, after_append}
-use Rattle.std.proofs.Common.{◌+◌, ◌<◌, length, length-append}
-use Rattle.std.proofs.Math.Seq.{drop-append_seam}
-use Rattle.std.proofs.lemmas.List.{nil_from_length}
 use Rattle.durable_lines.specs.RawFile.{CutsOrStays, HasFront, LeftNow, ReadsPiece}
 use Rattle.durable_lines.proofs.StateLemmas.{append_follows, cut_follows, only_synced, uncut}
 
@@ -17,7 +17,7 @@ torn_more [] more (l ∷ left) torn = absurd torn
 torn_more (byte ∷ bytes) more (l ∷ left) torn = (torn.0, torn_more bytes more left torn.1)
 
 -- what a crash leaves before an append, one after it may leave
-pub left_appended : (bytes : List ℕ) (s : State) (c : List ℕ) → IsLeft s c
+left_appended : (bytes : List ℕ) (s : State) (c : List ℕ) → IsLeft s c
     → IsLeft (after_append bytes s) c
 left_appended bytes s c (inl cut) = inl cut
 left_appended bytes s c (inr torn) = inr (torn.0, torn_more s.added bytes torn.0 torn.1, torn.2)
@@ -58,15 +58,6 @@ elapses_append acts m0 m1 m2 l0 l1 l2 s1 s2 bytes one two front =
       keeps = λ t c le was. two.keeps t c (omega (arith, le, low)) (one.keeps t c le was);
     }
 
--- nothing was done
-pub elapses_none : (acts : Type 0) (m : ℕ) (l : ℕ → List ℕ → Type 0) (s : State)
-    → Elapses m m l l (LeftNow acts s)
-elapses_none acts m l s = record {
-  later = omega arith;
-  nothing_else = λ t c le since. inl since;
-  keeps = λ t c le was. was;
-}
-
 -- two calls, the second of which changes no bytes
 pub elapses_same : (acts : Type 0) (m0 m1 m2 : ℕ) (l0 l1 l2 : ℕ → List ℕ → Type 0)
     (s1 s2 : State) → Elapses m0 m1 l0 l1 (LeftNow acts s1)
@@ -94,16 +85,6 @@ pub record WritesTo (acts : Type 0) (m0 m1 : ℕ) (l0 l1 : ℕ → List ℕ → 
   pub state : acts → now ≡ after_append front old
   pub one : id1 ≡ id0
   pub time : Elapses m0 m1 l0 l1 (LeftNow acts now)
-
-pub writes_none : (acts : Type 0) (m : ℕ) (l : ℕ → List ℕ → Type 0) (s : State) (id : ℕ)
-    (bytes : List ℕ) → WritesTo acts m m l l s s id id bytes bytes
-writes_none acts m l s id bytes = record {
-  front = [];
-  split = refl;
-  state = λ a. appended_none s;
-  one = refl;
-  time = elapses_none acts m l s;
-}
 
 -- a front of the rest of some bytes, after the first of them
 front_on : (first rest : List ℕ) (s0 s1 s2 : State) (bytes : List ℕ) → bytes ≡ first ++ rest
@@ -134,20 +115,7 @@ writes_more acts m0 m1 m2 l0 l1 l2 s0 s1 s2 i0 i1 i2 bytes rest count so wrote s
       (λ a. (take count rest, drop count rest, sym (take-append-drop count rest), wrote a));
 }
 
--- all bytes were written
-pub writes_all : (acts : Type 0) (m0 m1 : ℕ) (l0 l1 : ℕ → List ℕ → Type 0) (s0 s1 : State)
-    (i0 i1 : ℕ) (bytes rest : List ℕ) → WritesTo acts m0 m1 l0 l1 s0 s1 i0 i1 bytes rest
-    → rest ≡ [] → acts → s1 ≡ after_append bytes s0
-writes_all acts m0 m1 l0 l1 s0 s1 i0 i1 bytes rest so none a =
-    subst (λ (bs : List ℕ). s1 ≡ after_append bs s0)
-    (sym (so.split ∙ ap (λ (bs : List ℕ). so.front ++ bs) none ∙ append-nil so.front)) (so.state a)
-
-pub writes_front : (acts : Type 0) (m0 m1 : ℕ) (l0 l1 : ℕ → List ℕ → Type 0) (s0 s1 : State)
-    (i0 i1 : ℕ) (bytes rest : List ℕ) → WritesTo acts m0 m1 l0 l1 s0 s1 i0 i1 bytes rest
-    → acts → HasFront bytes s0 s1
-writes_front acts m0 m1 l0 l1 s0 s1 i0 i1 bytes rest so a = (so.front, rest, so.split, so.state a)
-
--- and so after a write that has failed
+-- a front of the bytes was written, also by a write that has failed
 pub writes_failed : (acts : Type 0) (m0 m1 : ℕ) (l0 l1 : ℕ → List ℕ → Type 0) (s0 s1 s2 : State)
     (i0 i1 : ℕ) (bytes rest : List ℕ) → WritesTo acts m0 m1 l0 l1 s0 s1 i0 i1 bytes rest
     → (acts → HasFront rest s1 s2) → acts → HasFront bytes s0 s2
@@ -218,15 +186,6 @@ reads_all bytes from to room got piece so read none some =
       length-append got rest,
     )) in
     sym (so.split.1 ∙ ap (λ (bs : List ℕ). got ++ bs) empty ∙ append-nil got)
-
--- there are as many bytes as were read, or more
-pub reads_within : (bytes : List ℕ) (place : ℕ) (got : List ℕ) → ReadsTo bytes place got
-    → length got ≤ length bytes
-reads_within bytes place got so = omega (
-  arith,
-  ap (λ (bs : List ℕ). length bs) so.split.1,
-  length-append got so.split.0,
-)
 
 -- what a crash leaves after an append, of which a front may have been written
 pub append_leaves : (acts : Type 0) (bytes : List ℕ) (s0 s1 : State)

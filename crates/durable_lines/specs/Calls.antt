@@ -1,5 +1,6 @@
--- The calls on a file, and why the replacement of a file failed.
+-- The calls on a file and on its name, and why the replacement of a file failed.
 --     FileCall         a call on a file
+--     PlaceCall        a call on a name
 --     HasFailedDraft   the draft of a replacement failed
 --     HasFailedPart    the place of a replacement failed, or its draft
 --     OverflowsDraft   an empty draft would exceed its limit with some bytes
@@ -12,6 +13,12 @@ pub data FileCall : Type 0 where
   Append : (bytes : List ℕ) → FileCall
   Cut : (len : ℕ) → FileCall
   Sync : FileCall
+
+-- a call on a name
+pub data PlaceCall : Type 0 where
+  CreateDraft : PlaceCall
+  RenameDraft : PlaceCall
+  SyncRename : PlaceCall
 
 -- Whether the draft of a replacement by these bytes failed: an empty file that had not failed has
 -- failed, and meanwhile these bytes were appended to it, wholly, in part or not at all.

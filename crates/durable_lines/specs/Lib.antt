@@ -8,5 +8,6 @@ pub mod MemoryFile
 pub mod MemoryPlace
 pub mod Moments
 pub mod RawFile
+pub mod RawFolder
 pub mod StoredFile
 pub mod StoredPlace

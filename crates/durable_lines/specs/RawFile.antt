@@ -7,7 +7,8 @@
 use Rattle.std.specs.Prelude.{◌≡◌, ◌⊎◌, ◌+◌, ◌<◌, ◌≤◌, ℕ, List, [], ◌++◌, length, take, drop}
 use Rattle.durable_lines.specs.FileState.{State, seen_of, IsLeft, after_append, after_cut}
 
--- what a crash leaves of a file in this state, if files of its type act as the crash model says
+-- whether a crash leaves these bytes of a file in this state: only if files of its type act as the
+-- crash model says
 abbrev pub LeftNow : (acts : Type 0) → State → List ℕ → Type 0
 LeftNow acts s c = acts × IsLeft s c
 

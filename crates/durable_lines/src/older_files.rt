@@ -1,54 +1,90 @@
 //! The files that a name had before: each replacement gives them further names.
-use crate::own_file::is_same_file;
-use std::fs::{File, Files};
-use std::io::ErrorKind;
-use std::{fs, io};
+ghost use Rattle.durable_lines.specs.RawFolder.{LeavesName};
 
-// Returns the result of a call, for which a missing file is no error.
-fn unless_missing(call: io::Result<()>) -> io::Result<()> {
+use crate::raw_folder::RawFolder;
+use std::io;
+use std::io::ErrorKind;
+
+// Returns whether a call failed, but not because a file is missing.
+pub(crate) fn has_failed(call: &io::Result<()>) -> bool {
     match call {
-        Err(error) if error.kind() == ErrorKind::NotFound => Ok(()),
-        call => call,
+        Err(error) => error.kind() != ErrorKind::NotFound,
+        Ok(()) => false,
     }
 }
 
-// Renames the file of each name to the next name. The file of the last name is replaced.
-fn shift<R: Files<File = File>>(files: &R, names: &[String]) -> io::Result<()> {
-    'names: for index in 1..names.len() {
-        let next = names.len() - index;
-        let (from, to) = (names[next - 1].as_str(), names[next].as_str());
-        unless_missing(fs::rename(files, from, to))?;
+// Renames the file of an older name, if there is one. No older name is that whose file is kept.
+fn rename_older<F: RawFolder>(folder: &mut F, kept: &str, from: &str, to: &str) -> io::Result<()>
+    ensures { F.acts → LeavesName kept.now (F.calls folder.old) (F.calls folder.new) }
+{
+    if from == kept || to == kept {
+        return Err(io::Error::from(ErrorKind::InvalidInput));
+    }
+    let call = folder.rename(from, to);
+    if has_failed(&call) {
+        return call;
     }
     Ok(())
 }
 
-// Returns whether two paths name one file.
-fn name_one_file<R: Files<File = File>>(files: &R, first: &str, second: &str) -> bool {
-    match (
-        fs::symlink_metadata(files, first),
-        fs::symlink_metadata(files, second),
-    ) {
-        (Ok(first), Ok(second)) => is_same_file(&first, &second),
-        _ => false,
+// Removes an older name, if it has a file.
+fn remove_older<F: RawFolder>(folder: &mut F, kept: &str, name: &str) -> io::Result<()>
+    ensures { F.acts → LeavesName kept.now (F.calls folder.old) (F.calls folder.new) }
+{
+    if name == kept {
+        return Err(io::Error::from(ErrorKind::InvalidInput));
     }
+    let call = folder.remove(name);
+    if has_failed(&call) {
+        return call;
+    }
+    Ok(())
+}
+
+// Gives the file of a name, if there is one, an older name too.
+fn link_older<F: RawFolder>(folder: &mut F, kept: &str, name: &str) -> io::Result<()>
+    ensures { F.acts → LeavesName kept.now (F.calls folder.old) (F.calls folder.new) }
+{
+    if name == kept {
+        return Err(io::Error::from(ErrorKind::InvalidInput));
+    }
+    let call = folder.link(kept, name);
+    if has_failed(&call) {
+        return call;
+    }
+    Ok(())
+}
+
+// Renames the file of each name to the next name. The file of the last name is replaced.
+fn shift<F: RawFolder>(folder: &mut F, kept: &str, names: &[String]) -> io::Result<()>
+    ensures { F.acts → LeavesName kept.now (F.calls folder.old) (F.calls folder.new) }
+{
+    'names: for index in 1..names.len() {
+        let next = names.len() - index;
+        rename_older(folder, kept, names[next - 1].as_str(), names[next].as_str())?;
+    }
+    Ok(())
 }
 
 // Gives the file of a path the first of these names too, after the file of each name got the next
 // one. The file of the last name is removed. With no names, does nothing. If the file has the first
-// name already, because a crash ended the last replacement here, the names stay.
-pub(crate) fn keep_older<R: Files<File = File>>(
-    files: &R,
+// name already, because a crash ended the last replacement here, the names stay. The path has its
+// file all the time.
+pub(crate) fn keep_older<F: RawFolder>(
+    folder: &mut F,
     path: &str,
     names: &[String],
-) -> io::Result<()> {
+) -> io::Result<()>
+    ensures { F.acts → LeavesName path.now (F.calls folder.old) (F.calls folder.new) }
+{
     let Some(first) = names.first() else {
         return Ok(());
     };
-    if name_one_file(files, path, first.as_str()) {
+    if folder.have_one_file(path, first.as_str()) {
         return Ok(());
     }
-    shift(files, names)?;
+    shift(folder, path, names)?;
     // (a rename does nothing if both names have one file, as a crash may leave them)
-    unless_missing(fs::remove_file(files, first.as_str()))?;
-    unless_missing(fs::hard_link(files, path, first.as_str()))
+    remove_older(folder, path, first.as_str())?;
+    link_older(folder, path, first.as_str())
 }

@@ -54,7 +54,7 @@ pub fn open_own<R: Files<File = File>>(
 
 // Creates the file of a path with these permissions, whatever the mask of the process. Errors:
 // `AlreadyExists` if the path names anything, a symbolic link too; any error of the system.
-fn create<R: Files<File = File>>(
+pub(crate) fn create<R: Files<File = File>>(
     files: &R,
     path: &str,
     access: FileAccess,
@@ -89,7 +89,7 @@ pub fn open_or_create<R: Files<File = File>>(
 }
 
 // Returns whether another process has locked the file of a path.
-fn is_held<R: Files<File = File>>(files: &R, path: &str) -> bool {
+pub(crate) fn is_held<R: Files<File = File>>(files: &R, path: &str) -> bool {
     match open_own(files, path, FileAccess::Write) {
         Ok(file) => matches!(file.try_lock(), Err(TryLockError::WouldBlock)),
         Err(_) => false,

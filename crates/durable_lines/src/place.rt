@@ -1,5 +1,6 @@
 //! `Place`: a name in a folder whose file can be replaced as a whole.
-ghost use Rattle.std.specs.Prelude.{◌≡◌, ◌⊎◌, ◌↔◌, [], List, ℕ, IfOk, OnOk, IsErrOf};
+ghost use Rattle.std.specs.Prelude.{◌≡◌, ◌⊎◌, ◌↔◌, [], List, ℕ, IfOk, OnOk, IsErrOf, ⊤};
+ghost use Rattle.durable_lines.specs.Calls.{PlaceCall, CreateDraft, RenameDraft, SyncRename};
 ghost use Rattle.durable_lines.specs.CrashModel.{Elapses, Narrows};
 
 use crate::durable_file::DurableFile;
@@ -19,6 +20,10 @@ pub trait Place: DurableFile {
     // on the disk.
     ghost named: { Self → List ℕ → Type 0 };
 
+    // Ghost relation: what a call on the name that returns `Ok` does besides what its other clauses
+    // say. A place whose calls do no more keeps the default.
+    ghost also_calls: { PlaceCall → Self → Self → Type 0 } = { λ _ _ _. ⊤ };
+
     /// Creates an empty draft. It replaces an earlier one.
     fn create_draft(&mut self) -> Result<Self::Draft, FileFault>
         ensures empty { IfOk result (λ draft. Self.Draft.seen draft ≡ []) }
@@ -26,6 +31,7 @@ pub trait Place: DurableFile {
         ensures crash { Narrows (Self.may_leave self.old) (Self.may_leave self.new) }
         ensures time { Elapses (Self.moment self.old) (Self.moment self.new)
             (Self.left_since self.old) (Self.left_since self.new) (Self.may_leave self.new) }
+        ensures also { OnOk result (also_calls CreateDraft self.old self.new) }
         ensures not_too_long { ¬ IsErrOf result FileFault.TooLong }
         ensures identity { Self.identity self.new ≡ Self.identity self.old }
         ensures failed { IsErrOf result FileFault.Failed ↔ Self.has_failed self.new }
@@ -44,6 +50,7 @@ pub trait Place: DurableFile {
             → Self.may_leave self.old c ⊎ Self.Draft.may_leave draft c }
         ensures time { Elapses (Self.moment self.old) (Self.moment self.new)
             (Self.left_since self.old) (Self.left_since self.new) (Self.may_leave self.new) }
+        ensures also { OnOk result (also_calls RenameDraft self.old self.new) }
         ensures not_too_long { ¬ IsErrOf result FileFault.TooLong }
         ensures identity { Self.identity self.new ≡ Self.identity self.old }
         ensures failed { IsErrOf result FileFault.Failed ↔ Self.has_failed self.new }
@@ -56,6 +63,7 @@ pub trait Place: DurableFile {
         ensures crash { Narrows (Self.may_leave self.old) (Self.may_leave self.new) }
         ensures time { Elapses (Self.moment self.old) (Self.moment self.new)
             (Self.left_since self.old) (Self.left_since self.new) (Self.may_leave self.new) }
+        ensures also { OnOk result (also_calls SyncRename self.old self.new) }
         ensures not_too_long { ¬ IsErrOf result FileFault.TooLong }
         ensures identity { Self.identity self.new ≡ Self.identity self.old }
         ensures failed { IsErrOf result FileFault.Failed ↔ Self.has_failed self.new }

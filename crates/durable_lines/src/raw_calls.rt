@@ -170,12 +170,12 @@ pub(crate) fn append_within<R: RawFile>(
     write_all(raw, bytes)
 }
 
-// Cuts a file to a length.
+// Cuts a file to a length. Nothing is said of a length that is greater than that of the file.
 pub(crate) fn cut_to<R: RawFile>(raw: &mut R, len: usize) -> Result<(), FileFault>
-    requires { R.acts → len ≤ length (seen_of (R.state raw.old)) }
-    ensures cut { OnOk result (R.acts
+    ensures cut { OnOk result (R.acts → len ≤ length (seen_of (R.state raw.old))
         → seen_of (R.state raw.new) ≡ take len (seen_of (R.state raw.old))) }
-    ensures crash { Follows (TornCut len) (LeftNow R.acts (R.state raw.old))
+    ensures crash { (R.acts → len ≤ length (seen_of (R.state raw.old)))
+        → Follows (TornCut len) (LeftNow R.acts (R.state raw.old))
         (LeftNow R.acts (R.state raw.new)) }
     ensures time { Elapses (R.moment raw.old) (R.moment raw.new) (R.left_since raw.old)
         (R.left_since raw.new) (LeftNow R.acts (R.state raw.new)) }

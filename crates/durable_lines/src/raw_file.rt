@@ -50,7 +50,8 @@ pub trait RawFile: Drop {
     /// Locks the file, until the value is dropped, against all other values that are open for it:
     /// one flock, which does not wait.
     fn try_lock(&mut self) -> Result<(), TryLockError>
-        ensures locked { OnOk result (is_locked self.new) };
+        ensures locked { OnOk result (is_locked self.new) }
+        ensures seen { seen_of (state self.new) ≡ seen_of (state self.old) };
 
     /// Drops the pages of the file that the system has in memory: one posix_fadvise. If a sync of
     /// an earlier process failed, they may differ from the disk. A page that was not synced since
@@ -58,6 +59,7 @@ pub trait RawFile: Drop {
     fn drop_pages(&mut self) -> io::Result<()>
         requires synced { acts → state self.old ≡ synced_with (seen_of (state self.old)) }
         ensures on_disk { OnOk result (reads_disk self.new) }
+        ensures empty { seen_of (state self.old) ≡ [] → seen_of (state self.new) ≡ [] }
         ensures locked { is_locked self.old → is_locked self.new };
 
     /// Moves to the first byte: one lseek.
@@ -113,11 +115,11 @@ pub trait RawFile: Drop {
         ensures failed { OnErr result (has_failed self.new) }
         ensures remains_failed { has_failed self.old → has_failed self.new };
 
-    /// Cuts the file to a length: one ftruncate.
+    /// Sets the length of the file: one ftruncate. Nothing is said of a greater length.
     fn set_len(&mut self, len: usize) -> io::Result<()>
-        requires { acts → len ≤ length (seen_of (state self.old)) }
-        ensures cut { OnOk result (acts → state self.new ≡ after_cut len (state self.old)) }
-        ensures refused { OnErr result (acts
+        ensures cut { OnOk result (acts → len ≤ length (seen_of (state self.old))
+            → state self.new ≡ after_cut len (state self.old)) }
+        ensures refused { OnErr result (acts → len ≤ length (seen_of (state self.old))
             → CutsOrStays len (state self.old) (state self.new)) }
         ensures time { Elapses (moment self.old) (moment self.new) (left_since self.old)
             (left_since self.new) (LeftNow acts (state self.new)) }

@@ -1,5 +1,6 @@
 //! `StoredFile`: a raw file, limited in length, as a durable file.
-ghost use Rattle.std.specs.Prelude.{◌≡◌, ◌+◌, ◌<◌, IfOk, length};
+ghost use Rattle.std.specs.Prelude.{◌≡◌, ◌↔◌, ◌+◌, ◌<◌, ◌≤◌, [], IfOk, IsErrOf, OnOk, length, take};
+ghost use Rattle.durable_lines.specs.CrashModel.{Elapses, Follows, TornCut};
 ghost use Rattle.durable_lines.specs.FileState.{seen_of};
 ghost use Rattle.durable_lines.specs.RawFile.{LeftNow};
 ghost use Rattle.durable_lines.specs.StoredFile.{limit_of, HasFailed, StaysWithin};
@@ -46,6 +47,8 @@ impl<R: RawFile> StoredFile<R> {
     pub fn try_lock_raw(raw: R, limit: usize) -> Result<StoredFile<R>, LockFault>
         ensures locked { IfOk result (λ stored. R.is_locked stored.raw) }
         ensures on_disk { IfOk result (λ stored. R.reads_disk stored.raw) }
+        ensures empty { IfOk result (λ stored. seen_of (R.state raw) ≡ []
+            → seen_of (R.state stored.raw) ≡ []) }
         ensures limit { IfOk result (λ stored. limit_of stored ≡ limit) }
         ensures unfailed { IfOk result (λ stored. ¬ HasFailed stored) }
     {
@@ -63,6 +66,31 @@ impl<R: RawFile> StoredFile<R> {
             limit,
             has_failed: false,
         })
+    }
+}
+
+impl<R: RawFile> StoredFile<R> {
+    // Cuts the file to a length. Nothing is said of a length that is greater than that of the file.
+    pub(crate) fn cut_to(&mut self, len: usize) -> Result<(), FileFault>
+        ensures cut { OnOk result (R.acts → len ≤ length (seen_of (R.state self.old.raw))
+            → seen_of (R.state self.new.raw) ≡ take len (seen_of (R.state self.old.raw))) }
+        ensures crash { (R.acts → len ≤ length (seen_of (R.state self.old.raw)))
+            → Follows (TornCut len) (LeftNow R.acts (R.state self.old.raw))
+            (LeftNow R.acts (R.state self.new.raw)) }
+        ensures time { Elapses (R.moment self.old.raw) (R.moment self.new.raw)
+            (R.left_since self.old.raw) (R.left_since self.new.raw)
+            (LeftNow R.acts (R.state self.new.raw)) }
+        ensures limit { limit_of self.new ≡ limit_of self.old }
+        ensures not_too_long { ¬ IsErrOf result FileFault.TooLong }
+        ensures identity { R.identity self.new.raw ≡ R.identity self.old.raw }
+        ensures failed { IsErrOf result FileFault.Failed ↔ HasFailed self.new }
+        ensures remains_failed { HasFailed self.old → HasFailed self.new }
+    {
+        if self.has_failed {
+            return Err(FileFault::Failed);
+        }
+        let call = cut_to(&mut self.raw, len);
+        record_failure(&mut self.has_failed, call)
     }
 }
 
@@ -121,11 +149,7 @@ impl<R: RawFile> DurableFile for StoredFile<R> {
     }
 
     fn cut(&mut self, len: usize) -> Result<(), FileFault> {
-        if self.has_failed {
-            return Err(FileFault::Failed);
-        }
-        let call = cut_to(&mut self.raw, len);
-        record_failure(&mut self.has_failed, call)
+        self.cut_to(len)
     }
 
     fn sync(&mut self) -> Result<(), FileFault> {

@@ -1,17 +1,24 @@
-//! `StoredPlace`: a name in a folder of the operating system.
-ghost use Rattle.std.specs.Prelude.{◌≡◌, [], IfOk, IfErr, IsErrOf};
+//! `StoredPlace`: a name in a folder.
+ghost use Rattle.std.specs.Prelude.{◌≡◌, ◌≤◌, ◌∷◌, ◌++◌, [], ℕ, true, IfOk, IfSome, IsErrOf, OnErr};
+ghost use Rattle.std.specs.Prelude.{OnOk, length, string_bytes, take};
+ghost use Rattle.durable_lines.specs.CrashModel.{HasOneOutcome};
+ghost use Rattle.durable_lines.specs.FileState.{seen_of};
+ghost use Rattle.durable_lines.specs.RawFile.{LeftNow};
+ghost use Rattle.durable_lines.specs.RawFolder.{CreatesName, GivesName, LeavesName, SyncFolder};
 ghost use Rattle.durable_lines.specs.StoredFile.{HasFailed as FileHasFailed};
-ghost use Rattle.durable_lines.specs.StoredPlace.{with_file, HasFailed};
+ghost use Rattle.durable_lines.specs.StoredPlace.{seen_in, with_file, CallsFolder, ChangesFile};
+ghost use Rattle.durable_lines.specs.StoredPlace.{HasFailed, SyncsFolder};
 
 use crate::durable_file::DurableFile;
 use crate::fault::{FileFault, record_failure};
-use crate::older_files::keep_older;
-use crate::own_file::create_anew;
+use crate::older_files::{has_failed, keep_older};
+use crate::os_folder::OsFolder;
 use crate::place::Place;
-use crate::stored_file::{OsStoredFile, StoredFile};
+use crate::raw_file::RawFile;
+use crate::raw_folder::RawFolder;
+use crate::stored_file::StoredFile;
 use std::alloc::Global;
-use std::fs::{File, Files};
-use std::{fs, io};
+use std::io;
 
 /// The paths of a [`StoredPlace`], all of them in one folder.
 #[derive(Debug, Drop)]
@@ -27,36 +34,38 @@ pub struct PlacePaths {
     pub mode: u32,
 }
 
-/// A name in a folder of the operating system, and a second name there for drafts. It has no file
-/// until it is given one or its file is replaced; until then, reads and writes fail. After a call
-/// failed, every later call fails, too, but `renew`, which does nothing.
+/// A name in a folder, and a second name there for drafts. It has no file until it is given one or
+/// its file is replaced; until then, reads and writes fail. After a call failed, every later call
+/// fails, too, but `renew`, which does nothing.
 ///
 /// The name may have its file by a rename of a process that was killed before it had synced the
 /// folder. So the first sync also syncs the folder.
 ///
-/// As for a [`StoredFile`], nothing is claimed of the bytes: that such a name acts as the crash
-/// model says is a premise. Hold a [`LockFile`](crate::LockFile) of the name as long as its file
-/// may be replaced.
+/// Nothing is claimed of the bytes: that such a name acts as the crash model says is a premise. Its
+/// calls on the folder are those that `specs/RawFolder.antt` says. Hold a
+/// [`LockFile`](crate::LockFile) of the name as long as its file may be replaced.
 #[derive(Drop)]
-pub struct StoredPlace<R: Files<File = File> + Drop> {
-    files: R,
-    folder: File,
+pub struct StoredPlace<F: RawFolder> {
+    folder: F,
     paths: PlacePaths,
     limit: usize,
-    file: Option<OsStoredFile>,
+    file: Option<StoredFile<F::File>>,
     // The file may have got the name by a rename that is not on the disk.
     is_renamed: bool,
     has_failed: bool,
 }
 
-impl<R: Files<File = File> + Drop> StoredPlace<R> {
-    /// Returns the place of a file, without the file. `folder` is the open folder of its paths, on
-    /// whose disk the draft becomes the file. `limit` is the maximum length of a draft in bytes.
-    pub fn new(files: R, folder: File, paths: PlacePaths, limit: usize) -> StoredPlace<R>
-        ensures { ¬ HasFailed result }
+/// A name in a folder of the operating system.
+pub type OsStoredPlace<R> = StoredPlace<OsFolder<R>>;
+
+impl<F: RawFolder> StoredPlace<F> {
+    /// Returns the place of a file, without the file. `folder` is the folder of its paths, on whose
+    /// disk the draft becomes the file. `limit` is the maximum length of a draft in bytes.
+    pub fn new(folder: F, paths: PlacePaths, limit: usize) -> StoredPlace<F>
+        ensures unfailed { ¬ HasFailed result }
+        ensures renamed { result.is_renamed ≡ true }
     {
         StoredPlace {
-            files,
             folder,
             paths,
             limit,
@@ -68,64 +77,119 @@ impl<R: Files<File = File> + Drop> StoredPlace<R> {
 
     /// Gives the place its file, which was opened under its path. A place that has failed remains
     /// failed.
-    pub fn set_file(&mut self, file: OsStoredFile)
+    pub fn set_file(&mut self, file: StoredFile<F::File>)
         ensures { self.new ≡ with_file self.old file }
     {
         self.file = Some(file);
     }
 }
 
-// Creates an empty draft, after one that a killed process left was removed, and locks it.
-fn open_draft<R: Files<File = File>>(
-    files: &R,
+// Creates an empty draft, after one that a killed process left was removed, and locks it. Fails if
+// another process has locked that one.
+fn open_draft<F: RawFolder>(
+    folder: &mut F,
     path: &str,
     mode: u32,
     limit: usize,
-) -> Result<OsStoredFile, FileFault>
+) -> Result<StoredFile<F::File>, FileFault>
+    ensures created { OnOk result (F.acts
+        → CreatesName path.now (F.calls folder.old) (F.calls folder.new)) }
+    ensures empty { IfOk result (λ draft. seen_of (F.File.state draft.raw) ≡ []) }
+    ensures locked { IfOk result (λ draft. F.File.is_locked draft.raw) }
     ensures unfailed { IfOk result (λ draft. ¬ FileHasFailed draft) }
     ensures not_too_long { ¬ IsErrOf result FileFault.TooLong }
 {
-    let file = create_anew(files, path, mode).map_err(|_| FileFault::Failed)?;
-    StoredFile::try_lock(file, limit).map_err(|_| FileFault::Failed)
+    if folder.is_held(path) || has_failed(&folder.remove(path)) {
+        return Err(FileFault::Failed);
+    }
+    match folder.create_new(path, mode) {
+        Ok(file) => StoredFile::try_lock_raw(file, limit).map_err(|_| FileFault::Failed),
+        Err(_) => Err(FileFault::Failed),
+    }
 }
 
 // Gives the path of a file to a draft, after the file has got the first of the older paths.
-fn replace_file<R: Files<File = File>>(files: &R, paths: &PlacePaths) -> io::Result<()> {
-    keep_older(files, paths.path.as_str(), paths.older.as_slice())?;
-    fs::rename(files, paths.draft.as_str(), paths.path.as_str())
+fn replace_file<F: RawFolder>(folder: &mut F, paths: &PlacePaths) -> io::Result<()>
+    ensures renamed { OnOk result (F.acts → GivesName (string_bytes paths.now.path)
+        (string_bytes paths.now.draft) (F.calls folder.old) (F.calls folder.new)) }
+    ensures refused { OnErr result (F.acts
+        → LeavesName (string_bytes paths.now.path) (F.calls folder.old) (F.calls folder.new)) }
+{
+    keep_older(folder, paths.path.as_str(), paths.older.as_slice())?;
+    folder.rename(paths.draft.as_str(), paths.path.as_str())
 }
 
-// Returns the file of a place, or `Failed` if there is none.
-fn file_of(file: &mut Option<OsStoredFile>) -> Result<&mut OsStoredFile, FileFault>
-    ensures { IfErr result (λ fault. fault ≡ FileFault.Failed) }
+// Reads the file of a place, or returns `Failed` if there is none.
+fn read_file<R: RawFile>(
+    alloc: Global,
+    file: &mut Option<StoredFile<R>>,
+) -> Result<Vec<u8>, FileFault>
+    ensures bytes { IfOk result (λ bytes. R.acts → bytes.items ≡ seen_in R.state file.old) }
+    ensures unchanged { OnOk result (seen_in R.state file.new ≡ seen_in R.state file.old) }
+    ensures unread { OnErr result (seen_in R.state file.new ≡ seen_in R.state file.old) }
 {
     match file {
-        Some(file) => Ok(file),
+        Some(file) => file.read(alloc),
+        None => Err(FileFault::Failed),
+    }
+}
+
+// Appends bytes to the file of a place, or returns `Failed` if there is none.
+fn append_to_file<R: RawFile>(
+    file: &mut Option<StoredFile<R>>,
+    bytes: &[u8],
+) -> Result<(), FileFault>
+    ensures { OnOk result (R.acts
+        → seen_in R.state file.new ≡ seen_in R.state file.old ++ bytes.now) }
+{
+    match file {
+        Some(file) => file.append(bytes),
+        None => Err(FileFault::Failed),
+    }
+}
+
+// Cuts the file of a place to a length, or returns `Failed` if there is none.
+fn cut_file<R: RawFile>(file: &mut Option<StoredFile<R>>, len: usize) -> Result<(), FileFault>
+    ensures cut { OnOk result (R.acts → len ≤ length (seen_in R.state file.old)
+        → seen_in R.state file.new ≡ take len (seen_in R.state file.old)) }
+    ensures not_too_long { ¬ IsErrOf result FileFault.TooLong }
+{
+    match file {
+        Some(file) => file.cut_to(len),
         None => Err(FileFault::Failed),
     }
 }
 
 // Syncs the file of a place, and its folder if a rename is not on the disk.
-fn sync_both(
-    file: &mut Option<OsStoredFile>,
-    folder: &File,
+fn sync_both<F: RawFolder>(
+    file: &mut Option<StoredFile<F::File>>,
+    folder: &mut F,
     is_renamed: bool,
 ) -> Result<(), FileFault>
-    ensures { ¬ IsErrOf result FileFault.TooLong }
+    ensures unchanged { OnOk result
+        (seen_in F.File.state file.new ≡ seen_in F.File.state file.old) }
+    ensures file { OnOk result (IfSome file.new (λ f. HasOneOutcome (seen_of (F.File.state f.raw))
+        (LeftNow F.File.acts (F.File.state f.raw)))) }
+    ensures folder { OnOk result (F.acts → is_renamed ≡ true
+        → F.calls folder.new ≡ F.calls folder.old ++ SyncFolder ∷ []) }
+    ensures not_too_long { ¬ IsErrOf result FileFault.TooLong }
 {
-    file_of(file)?.sync()?;
+    match file {
+        Some(file) => file.sync()?,
+        None => return Err(FileFault::Failed),
+    }
     if is_renamed {
-        return folder.sync_all().map_err(|_| FileFault::Failed);
+        return folder.sync().map_err(|_| FileFault::Failed);
     }
     Ok(())
 }
 
-impl<R: Files<File = File> + Drop> DurableFile for StoredPlace<R> {
+impl<F: RawFolder> DurableFile for StoredPlace<F> {
     ghost acts_as_file = { ⊥ };
 
     ghost identity = { λ _. 0 };
 
-    ghost seen = { λ _. [] };
+    ghost seen = { λ place. seen_in F.File.state place.file };
 
     ghost may_leave = { λ _ _. ⊥ };
 
@@ -133,9 +197,15 @@ impl<R: Files<File = File> + Drop> DurableFile for StoredPlace<R> {
 
     ghost left_since = { λ _ _ _. ⊥ };
 
-    ghost stored = { λ _ _. ⊥ };
+    // (of any file that has had the name)
+    ghost stored = { λ _ bytes. (file : ℕ) × F.File.stored file bytes };
 
     ghost has_failed = { HasFailed };
+
+    ghost also = { λ call old new.
+        (F.File.acts → ChangesFile F.File.acts F.File.state call old.file new.file)
+        × (F.acts → SyncsFolder call old.is_renamed new.is_renamed (F.calls old.folder)
+        (F.calls new.folder)) };
 
     ghost counts_now = { λ place t c le now. now };
 
@@ -146,10 +216,7 @@ impl<R: Files<File = File> + Drop> DurableFile for StoredPlace<R> {
         if self.has_failed {
             return Err(FileFault::Failed);
         }
-        let call = match file_of(&mut self.file) {
-            Ok(file) => file.read(alloc),
-            Err(fault) => Err(fault),
-        };
+        let call = read_file(alloc, &mut self.file);
         record_failure(&mut self.has_failed, call)
     }
 
@@ -158,10 +225,7 @@ impl<R: Files<File = File> + Drop> DurableFile for StoredPlace<R> {
         if self.has_failed {
             return Err(FileFault::Failed);
         }
-        let call = match file_of(&mut self.file) {
-            Ok(file) => file.append(bytes),
-            Err(fault) => Err(fault),
-        };
+        let call = append_to_file(&mut self.file, bytes);
         record_failure(&mut self.has_failed, call)
     }
 
@@ -170,10 +234,7 @@ impl<R: Files<File = File> + Drop> DurableFile for StoredPlace<R> {
         if self.has_failed {
             return Err(FileFault::Failed);
         }
-        let call = match file_of(&mut self.file) {
-            Ok(file) => file.cut(len),
-            Err(fault) => Err(fault),
-        };
+        let call = cut_file(&mut self.file, len);
         record_failure(&mut self.has_failed, call)
     }
 
@@ -182,35 +243,39 @@ impl<R: Files<File = File> + Drop> DurableFile for StoredPlace<R> {
         if self.has_failed {
             return Err(FileFault::Failed);
         }
-        let call = sync_both(&mut self.file, &self.folder, self.is_renamed);
+        let call = sync_both(&mut self.file, &mut self.folder, self.is_renamed);
         self.is_renamed = self.is_renamed && call.is_err();
         record_failure(&mut self.has_failed, call)
     }
 }
 
-impl<R: Files<File = File> + Drop> Place for StoredPlace<R> {
-    type Draft = OsStoredFile;
+impl<F: RawFolder> Place for StoredPlace<F> {
+    type Draft = StoredFile<F::File>;
 
     ghost named = { λ _ _. ⊥ };
 
-    ghost drafts_act = { λ acts. acts };
+    ghost also_calls = { λ call old new. F.acts → CallsFolder call (string_bytes old.paths.path)
+        (string_bytes old.paths.draft) new.is_renamed (F.calls old.folder)
+        (F.calls new.folder) };
+
+    ghost drafts_act = { λ acts. absurd acts };
 
     #[tactic(auto, using(crate::proofs::PastLemmas::elapses_unclaimed))]
-    fn create_draft(&mut self) -> Result<OsStoredFile, FileFault> {
+    fn create_draft(&mut self) -> Result<StoredFile<F::File>, FileFault> {
         if self.has_failed {
             return Err(FileFault::Failed);
         }
         let path = self.paths.draft.as_str();
-        let call = open_draft(&self.files, path, self.paths.mode, self.limit);
+        let call = open_draft(&mut self.folder, path, self.paths.mode, self.limit);
         record_failure(&mut self.has_failed, call)
     }
 
     #[tactic(auto, using(crate::proofs::PastLemmas::elapses_unclaimed))]
-    fn rename(&mut self, draft: OsStoredFile) -> Result<(), FileFault> {
+    fn rename(&mut self, draft: StoredFile<F::File>) -> Result<(), FileFault> {
         if self.has_failed {
             return Err(FileFault::Failed);
         }
-        let call = replace_file(&self.files, &self.paths);
+        let call = replace_file(&mut self.folder, &self.paths);
         self.file = Some(draft);
         self.is_renamed = true;
         record_failure(&mut self.has_failed, call.map_err(|_| FileFault::Failed))
@@ -221,7 +286,7 @@ impl<R: Files<File = File> + Drop> Place for StoredPlace<R> {
         if self.has_failed {
             return Err(FileFault::Failed);
         }
-        let call = self.folder.sync_all();
+        let call = self.folder.sync();
         self.is_renamed = self.is_renamed && call.is_err();
         record_failure(&mut self.has_failed, call.map_err(|_| FileFault::Failed))
     }

@@ -12,7 +12,9 @@ ghost use Rattle.server_files.specs.Journals.{depth_for, terms_for};
 use crate::cutting::{end_of, keep_cut};
 use crate::lock::lock_journal;
 use crate::paths::{folder_of, place_paths, with_suffix};
-use durable_lines::{FileAccess, LockFile, Place, StoredFile, StoredPlace, open_own};
+use durable_lines::{
+    FileAccess, LockFile, OsFolder, OsStoredPlace, Place, StoredFile, StoredPlace, open_own,
+};
 use journal_files::{
     RenewalTerms, RenewedFile, Resumed, StartFault, begin_journal, renew_long_journal,
     resume_journal,
@@ -45,7 +47,7 @@ pub struct OpenJournal<R: Files<File = File> + Drop> {
     /// The path of the journal.
     pub path: String,
     /// The file, which is renewed when it has grown.
-    pub file: RenewedFile<StoredPlace<R>>,
+    pub file: RenewedFile<OsStoredPlace<R>>,
     /// The lock file.
     pub lock: LockFile,
 }
@@ -75,12 +77,12 @@ fn place_of<R: AllocGlobal + Files<File = File> + Copy + Drop>(
     rt: &R,
     path: &str,
     options: JournalOptions,
-) -> Result<StoredPlace<R>, StartFault> {
+) -> Result<OsStoredPlace<R>, StartFault> {
     let Ok(folder) = File::open(rt, folder_of(path)) else {
         return Err(StartFault::File);
     };
     let paths = place_paths(rt.alloc(), path, options.kept, options.mode)?;
-    Ok(StoredPlace::new(*rt, folder, paths, MAX_BYTES))
+    Ok(StoredPlace::new(OsFolder::new(*rt, folder), paths, MAX_BYTES))
 }
 
 // Resumes the journal of a place's file, for the meter with the name of this recorder. Its recorder
@@ -195,7 +197,7 @@ fn open_file<R: AllocGlobal + Files<File = File> + Drop, E: Eprint>(
     rt: &R,
     errors: &E,
     path: &str,
-    place: &mut StoredPlace<R>,
+    place: &mut OsStoredPlace<R>,
     recorder: Recorder,
     options: JournalOptions,
 ) -> Result<Recorder, StartFault>
@@ -250,7 +252,7 @@ fn open_renewed<R: AllocGlobal + Files<File = File> + Copy + Drop, E: Eprint>(
     path: &str,
     recorder: Recorder,
     options: JournalOptions,
-) -> Result<(RenewedFile<StoredPlace<R>>, Recorder), StartFault>
+) -> Result<(RenewedFile<OsStoredPlace<R>>, Recorder), StartFault>
     requires { length recorder.events ≡ 0 }
     ensures unused { IfOk result (λ r. length r.1.events ≡ 0) }
     ensures terms { IfOk result (λ r. terms_of r.0 ≡ terms_for options) }
@@ -294,7 +296,7 @@ fn fault_of(fault: StartFault) -> Fault
 fn journal_with<R: AllocGlobal + Files<File = File> + Drop>(
     rt: &R,
     path: &str,
-    file: RenewedFile<StoredPlace<R>>,
+    file: RenewedFile<OsStoredPlace<R>>,
     lock: LockFile,
 ) -> Result<OpenJournal<R>, Fault>
     ensures path { IfOk result (λ journal. string_bytes journal.path ≡ path.now) }

@@ -8,7 +8,7 @@ use crate::journal::OpenJournal;
 use crate::paths::with_suffix;
 use crate::relay_file::RelayFile;
 use crate::relay_log::{RelayLog, RelayOptions, open_relay};
-use durable_lines::{DurableFile, LockFile, StoredPlace};
+use durable_lines::{DurableFile, LockFile, OsStoredPlace};
 use journal_files::RenewedFile;
 use meter_relay::{OptionalFile, Relay, RelayedFile};
 use program::Fault;
@@ -19,7 +19,7 @@ use std::fs::{File, Files};
 use std::time::Clock;
 
 /// The file of a journal, which is renewed when it has grown.
-pub type StoredJournal<R> = RenewedFile<StoredPlace<R>>;
+pub type StoredJournal<R> = RenewedFile<OsStoredPlace<R>>;
 
 /// The file of a journal, with the relay of the meter if it has one.
 pub type RelayedJournal<F, R> = RelayedFile<F, RelayFile<R>, RelayLog<R>>;

@@ -1,4 +1,4 @@
-use Rattle.std.proofs.Common.{◌≡◌, ◌≤◌, ◌<◌, ℕ, List, refl, sym, ◌∙◌, ap, arith, rules, length, take, subst}
+use Rattle.std.proofs.Common.{◌≡◌, ℕ, List, refl, sym, ◌∙◌, ap, arith, rules, length, take, subst}
 use Rattle.durable_lines.specs.FileState.{seen_of}
 use Rattle.durable_lines.specs.RawFile.{ReadsPiece}
 use Rattle.durable_lines.proofs.RawLemmas.{ReadsTo, elapses_same, reads_all, reads_more, reads_none}
@@ -52,7 +52,8 @@ pieces-preserved g c =
       one = c.read_retrying.ensures.identity ∙ c.pieces.invariant.one;
       time = elapses_same _ _ _ _ _ _ _ _ _ c.pieces.invariant.time c.read_retrying.ensures.time
           (λ acts. c.read_retrying.ensures.state);
-      was_failed = λ was. c.read_retrying.ensures.remains_failed (c.pieces.invariant.was_failed was);
+      was_failed = λ was.
+          c.read_retrying.ensures.remains_failed (c.pieces.invariant.was_failed was);
       room = search rules;
     }
 

@@ -1,5 +1,5 @@
 -- The bytes up to the place were read, and they are within the limit.
-use Rattle.std.proofs.Common.{◌≡◌, ◌≤◌, length, take}
+use Rattle.std.proofs.Common.{◌≡◌, ◌≤◌, length}
 use Rattle.durable_lines.specs.CrashModel.{Elapses}
 use Rattle.durable_lines.specs.FileState.{seen_of}
 use Rattle.durable_lines.specs.RawFile.{LeftNow}

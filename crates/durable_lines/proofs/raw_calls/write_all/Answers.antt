@@ -31,5 +31,6 @@ writes-preserved g c =
         c.in_ok-count.ensures.count.1,
         c.split_at.ensures.back_len,
       );
-      was_failed = λ was. c.write_retrying.ensures.remains_failed (c.writes.invariant.was_failed was);
+      was_failed = λ was.
+          c.write_retrying.ensures.remains_failed (c.writes.invariant.was_failed was);
     }

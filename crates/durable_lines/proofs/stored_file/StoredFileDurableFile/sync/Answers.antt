@@ -1,4 +1,4 @@
-use Rattle.std.proofs.Common.{OnOk, sym, subst}
+use Rattle.std.proofs.Common.{OnOk, subst}
 use Rattle.durable_lines.specs.CrashModel.{Narrows, HasOneOutcome}
 use Rattle.durable_lines.specs.FileState.{seen_of}
 use Rattle.durable_lines.specs.RawFile.{LeftNow}
