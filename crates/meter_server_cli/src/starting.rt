@@ -1,5 +1,9 @@
 //! How the command `serve` begins: from its options to a server that listens, with its journal and
 //! its relay.
+ghost use Rattle.std.specs.Prelude.{◌≡◌, IfOk, IfSome, is_some, string_bytes};
+ghost use Rattle.meter_server_cli.specs.Beginnings.{HasPath};
+ghost use Rattle.server_files.specs.Outputs.{IsOutputOf};
+
 use crate::messages::why_not_listening;
 use durable_lines::{GROUP_READABLE, OWNER_ONLY};
 use program::Fault;
@@ -53,7 +57,10 @@ fn plan_server(
     rt: &HostRuntime,
     log: &Log,
     options: &ServeOptions,
-) -> Result<ServePlan<Stdin>, Fault> {
+) -> Result<ServePlan<Stdin>, Fault>
+    ensures bounds { IfOk result (λ plan. plan.bounds ≡ options.now.bounds) }
+    ensures password { IfOk result (λ plan. plan.password ≡ string_bytes options.now.password) }
+{
     match make_plan(rt.alloc(), rt.stdin(), options) {
         Ok(plan) => Ok(plan),
         Err(fault) => {
@@ -111,7 +118,13 @@ fn with_journal(
     log: &Log,
     options: &ServeOptions,
     plan: ServePlan<Stdin>,
-) -> Result<(ServePlan<Stdin>, Option<OpenJournal<HostRuntime>>), Fault> {
+) -> Result<(ServePlan<Stdin>, Option<OpenJournal<HostRuntime>>), Fault>
+    ensures bounds { IfOk result (λ r. r.0.bounds ≡ plan.bounds) }
+    ensures password { IfOk result (λ r. r.0.password ≡ plan.password) }
+    ensures journal { IfOk result (λ r. is_some r.1 ≡ is_some options.now.journal) }
+    ensures path { IfOk result (λ r. IfSome options.now.journal
+        (λ path. IfSome r.1 (λ journal. string_bytes journal.path ≡ string_bytes path))) }
+{
     let Some(path) = &options.journal else {
         return Ok((plan, None));
     };
@@ -144,7 +157,13 @@ fn ready(
     plan: ServePlan<Stdin>,
     journal: Option<OpenJournal<HostRuntime>>,
     listening: (TcpListener, SocketAddr),
-) -> Result<Server, Fault> {
+) -> Result<Server, Fault>
+    ensures plan { IfOk result (λ server. server.plan ≡ plan) }
+    ensures outputs { IfOk result (λ server.
+        IsOutputOf (is_some journal) (is_some options.now.relay) server.events) }
+    ensures journal { IfOk result (λ server. IfSome journal
+        (λ opened. HasPath (string_bytes opened.path) server.events)) }
+{
     let (listener, address) = listening;
     let relay = RelayOptions {
         path: options.relay.as_deref(),
@@ -178,8 +197,17 @@ fn report_no_journal(rt: &HostRuntime, log: &Log, options: &ServeOptions) {
 }
 
 // Prepares a server up to the first client: validates the options, reads the trace to resume from,
-// opens the journal, listens, and opens the relay.
-pub(crate) fn begin(rt: &HostRuntime, log: &Log, options: &ServeOptions) -> Result<Server, Fault> {
+// opens the journal, listens, and opens the relay. The server has the limits and the password of the
+// options, a journal if they name one, at their path, and a relay if they name one.
+pub(crate) fn begin(rt: &HostRuntime, log: &Log, options: &ServeOptions) -> Result<Server, Fault>
+    ensures bounds { IfOk result (λ server. server.plan.bounds ≡ options.now.bounds) }
+    ensures password { IfOk result
+        (λ server. server.plan.password ≡ string_bytes options.now.password) }
+    ensures outputs { IfOk result (λ server. IsOutputOf (is_some options.now.journal)
+        (is_some options.now.relay) server.events) }
+    ensures path { IfOk result (λ server. IfSome options.now.journal
+        (λ path. HasPath (string_bytes path) server.events)) }
+{
     let plan = plan_server(rt, log, options)?;
     report_other_name(rt, log, options, &plan.recorder);
     let (plan, journal) = with_journal(rt, log, options, plan)?;
