@@ -9,6 +9,7 @@ usage: tests/relay.py"""
 import os
 import pathlib
 import resource
+import subprocess
 import sys
 import tempfile
 
@@ -189,6 +190,22 @@ def a_change_is_written_after_its_event_is_on_the_disk(name):
         check(f"{name}: started again", server.end()[0] == 0)
 
 
+def a_failed_journal_ends_a_server_whose_input_is_open(name):
+    with tempfile.TemporaryDirectory() as folder:
+        relay, journal = pathlib.Path(folder, "relay"), pathlib.Path(folder, "journal")
+        server = RelayedServer("--relay", str(relay), "--journal", str(journal))
+        server.limit(journal)
+        server.say("button")
+        try:
+            status = server.process.wait(serving.PATIENCE)
+        except subprocess.TimeoutExpired:
+            status = None
+        check(f"{name}: it ends by itself", status == 3, status, server.errors)
+        check(f"{name}: why", b"the journal failed" in server.errors, server.errors)
+        check(f"{name}: no change", relay.read_text() == "1\n", relay.read_text())
+        server.stop()
+
+
 OPENED_AGAIN = "the relay's file was replaced or removed, and is opened again"
 UNREAD = "nobody has read the last change yet"
 
@@ -361,6 +378,7 @@ def main():
         a_file_that_cannot_be_written_is_a_fault,
         a_relay_that_fails_ends_the_server,
         a_change_is_written_after_its_event_is_on_the_disk,
+        a_failed_journal_ends_a_server_whose_input_is_open,
         a_file_of_the_journal_is_refused,
         a_pipe_that_is_made_anew_is_given_changes,
         a_pipe_that_is_removed_ends_the_server,

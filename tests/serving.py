@@ -987,6 +987,7 @@ HELD_BACK = ("console: moment {} held back: more than a day ahead of the last on
              "machine; --accept-clock-step lets it pass")
 PASSED = "console: {} moments were held back"
 STALE = "console: moment {} is stale: the last one is {}"
+RAN = "console: moment {} ran 1 schedule"
 
 
 def six_of(moment):
@@ -1036,6 +1037,8 @@ def a_moment_far_ahead_is_held_back(name):
     server.say(f"moment {next_day}")
     check(f"{name}: the schedule of the next day",
           wait_until(lambda: client.get(STATE) == "value 1600", SHORT))
+    ran = f"{RAN.format(next_day)}\n".encode()
+    check(f"{name}: that it ran is reported", server.says_soon(ran), console_of(server))
     status, moments = end_with_moments(server, client)
     wanted = [(f"moment {begun}", "ran 0"), (f"moment {begun + 60}", "ran 0"),
               (f"moment {begun + 30}", f"stale {begun + 60}"), (f"moment {next_day}", "ran 1")]
@@ -1069,7 +1072,8 @@ def a_step_of_the_clock_may_be_accepted(name):
     status, moments = end_with_moments(server, client)
     check(f"{name}: the trace", status == 0 and moments[1:] == [(f"moment {far}", "ran 1")],
           status, moments)
-    check(f"{name}: nothing is reported", console_of(server) == [], console_of(server))
+    check(f"{name}: only that it ran is reported", console_of(server) == [RAN.format(far)],
+          console_of(server))
 
 
 def moments_of_a_run(*moments, options=(), trace=None):
