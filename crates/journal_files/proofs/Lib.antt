@@ -1,3 +1,4 @@
+pub mod Crashes
 pub mod FaultLemmas
 pub mod RenewalLemmas
 pub mod Restarts

@@ -1,5 +1,7 @@
 //! Resumes a journal: judges its text, cuts an interrupted line, and continues where its lines end.
-ghost use Rattle.std.specs.Prelude.{◌≡◌, ◌≢◌, [], Ok, IfOk, IfErr, OnOk, IsErrOf};
+ghost use Rattle.std.specs.Prelude.{◌≡◌, ◌≢◌, ◌+◌, ◌⊎◌, [], Ok, IfOk, IfErr, OnOk, IsErrOf};
+ghost use Rattle.std.specs.Prelude.{length};
+ghost use Rattle.durable_lines.specs.CrashModel.{LeavesOnly};
 ghost use Rattle.durable_lines.specs.Lines.{HasLinesAfterDamage, IsSettled, lines_in, text_of};
 ghost use Rattle.journal_files.specs.Faults.{IsRefusal, IsResumeFault};
 ghost use Rattle.journal_files.specs.Journals.{Continues};
@@ -59,7 +61,7 @@ fn judge_trace(alloc: Global, text: &[u8], device: &Octets) -> Result<Trace, Sta
 /// Errors, in this order: `File` if a call on the file failed; `TooLong`; `Line` with the number of
 /// the first line that is not that of a trace; `Counted`; `OtherMeter`; `Damaged` if whole lines
 /// follow a damaged one. After these the file is as it was, unless a call failed after the text was
-/// found right. `Memory` can occur at any point.
+/// found right. `Memory` can occur at any point. A crash during the call loses no line.
 #[tactic(auto, using(crate::proofs::FaultLemmas::resume_faults))]
 pub fn resume_journal<F: DurableFile>(
     alloc: Global,
@@ -81,8 +83,14 @@ pub fn resume_journal<F: DurableFile>(
     ensures cut { OnOk result (F.acts_as_file → ¬ HasLinesAfterDamage (F.seen file.old)) }
     ensures seen { OnOk result (F.acts_as_file
         → F.seen file.new ≡ text_of (lines_in (F.seen file.old))) }
+    ensures count { IfOk result (λ resumed. F.acts_as_file
+        → length (text_of (lines_in (F.seen file.old))) + resumed.cut
+        ≡ length (F.seen file.old)) }
     ensures settled { OnOk result (F.acts_as_file
         → IsSettled F.seen F.may_leave F.identity F.stored file.new) }
+    // A crash at any moment of the call leaves the same lines, or what it could have left before.
+    ensures any_moment { F.acts_as_file → LeavesOnly F.moment F.left_since file.old file.new
+        (λ c. F.may_leave file.old c ⊎ (lines_in c ≡ lines_in (F.seen file.old))) }
     ensures identity { F.identity file.new ≡ F.identity file.old }
 {
     let bytes = file.read(alloc)?;
