@@ -9,8 +9,8 @@ use std::io;
 
 /// A folder of the operating system, and the names of files in it. Each method has no logic of its
 /// own. The ghost members have the calls that were made, in their order; that a call does to the
-/// names what `specs/RawFolder.antt` says is a premise, which no contract can promise of a folder of
-/// the operating system: [`OsFolder`](crate::OsFolder) claims no `acts`.
+/// names what `specs/RawFolder.antt` says is a premise, which no contract can promise of a folder
+/// of the operating system: [`OsFolder`](crate::OsFolder) claims no `acts`.
 pub trait RawFolder: Drop {
     /// The files of the folder.
     type File: RawFile;

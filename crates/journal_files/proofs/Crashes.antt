@@ -11,8 +11,8 @@ module _ {F : Type 0} (seen : F → List ℕ) (may_leave : F → List ℕ → Ty
     (time : Elapses (moment old) (moment read) (left_since old) (left_since read) (may_leave read))
     (narrows : Narrows (may_leave old) (may_leave read)) where
   -- the journal was read
-  pub read_leaves : LeavesOnly moment left_since old read (SameLines seen may_leave moment left_since
-      old)
+  pub read_leaves : LeavesOnly moment left_since old read
+      (SameLines seen may_leave moment left_since old)
   read_leaves = after_sync seen may_leave moment left_since old read only_now time narrows
 
   -- and then recovered

@@ -71,11 +71,12 @@ pub record Leaves {F : Type 0} (identity : F → ℕ) (seen : F → List ℕ)
   pub all : OnOk end
       ((c : List ℕ) → may_leave ended c → IsAllSaved Renews (lines_in (seen began)) calls c)
 
--- Whether the journal's worker, whose port was p and is q, ended with this file and this result, and
--- made no call. It ended without a fault only if the journal may end, which it learns by being asked
--- to stop, and then returned the number of lines of the history. Its fault is that of a save: `Turns` only if q has read that all turns were drawn, and
--- `Failed` only if the file has failed; the action for failures was called with it. The file was
--- `began`, and is left as `Leaves` states if files of its type act as the crash model has them.
+-- Whether the journal's worker, whose port was p and is q, ended with this file and this result,
+-- and made no call. It ended without a fault only if the journal may end, which it learns by being
+-- asked to stop, and then returned the number of lines of the history. Its fault is that of a save:
+-- `Turns` only if q has read that all turns were drawn, and `Failed` only if the file has failed;
+-- the action for failures was called with it. The file was `began`, and is left as `Leaves` states
+-- if files of its type act as the crash model has them.
 pub record Keeps {F : Type 0} (acts : Type 0) (identity : F → ℕ) (seen : F → List ℕ)
     (may_leave : F → List ℕ → Type 0) (moment : F → ℕ) (left_since : F → ℕ → List ℕ → Type 0)
     (Renews : List ℕ → List ℕ → Type 0) (has_failed : F → Type 0) (MayEnd : Type 0)

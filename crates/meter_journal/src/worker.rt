@@ -93,8 +93,8 @@ impl<F: DurableFile + Send, A: FailureAction, L: JournalIdentity + Send + Sync> 
         F.left_since
         F.renews F.has_failed L.may_end A.has_acted worker p q end };
 
-    /// Saves lines until the journal is stopped, and returns the file and the number of lines of the
-    /// history, all of which it has. The error is that of a save.
+    /// Saves lines until the journal is stopped, and returns the file and the number of lines of
+    /// the history, all of which it has. The error is that of a save.
     fn work<W: Wait>(
         self,
         rt: &W,

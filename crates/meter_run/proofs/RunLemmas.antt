@@ -98,7 +98,8 @@ others_none q kept y root own joined (i ∷ []) other = elim (cases_lt i q.known
   })
 ]
 others_none q kept y root own joined (i ∷ j ∷ rest) other = elim (cases_lt i q.known.splits) [
-  | inl low ↦ y.unused (i ∷ j ∷ rest) (inr (leaf_below (i ∷ []) j rest q.known.joined (joined i low)))
+  | inl low ↦ y.unused (i ∷ j ∷ rest)
+      (inr (leaf_below (i ∷ []) j rest q.known.joined (joined i low)))
   | inr high ↦ y.unused (i ∷ j ∷ rest) (inl record {
     count = i;
     rest = j ∷ rest;

@@ -52,14 +52,14 @@ abbrev pub file_in : {F A : Type 0} → Option (MeterJournal F A) → Option F
 file_in None = None
 file_in (Some journal) = Some journal.file
 
--- the number of ports that were split off before those of the sources: that of the journal's worker,
--- if there is a journal
+-- the number of ports that were split off before those of the sources: that of the journal's
+-- worker, if there is a journal
 abbrev pub first_port : {F : Type 0} → Option F → ℕ
 first_port None = 0
 first_port (Some file) = 1
 
--- that a journal has ended, for whatever reason: it may have been asked to stop at any time, and may
--- have failed with any fault
+-- that a journal has ended, for whatever reason: it may have been asked to stop at any time, and
+-- may have failed with any fault
 abbrev pub AnyEnd : Type 0
 AnyEnd = EndsFor ⊤ (λ fault. ⊤)
 
@@ -155,9 +155,9 @@ abbrev pub file_of_journal : {F : Type 0} → JournalEnd F → Option F
 file_of_journal None = None
 file_of_journal (Some (file, end)) = Some file
 
--- Whether the port that was lent to the journal's worker was joined into the port `before`. Then the
--- lines of the history were counted, and the trace was written. The result of the journal is that of
--- its worker, unless the numbers of lines differ.
+-- Whether the port that was lent to the journal's worker was joined into the port `before`. Then
+-- the lines of the history were counted, and the trace was written. The result of the journal is
+-- that of its worker, unless the numbers of lines differ.
 pub record IsFinished {F : Type 0}
     (did : MeterPort → MeterPort → F × Result ℕ JournalFault → Type 0)
     (lent before : MeterPort) (trace : Result (List ℕ) Fault) (journal : Result (Unit {0}) Fault)

@@ -152,8 +152,8 @@ fn count_lines<W: Wait>(rt: &W, alloc: Global, port: &mut Port<Kept>) -> Option<
     }
 }
 
-// Returns the fault of a journal by the result of its worker, which has saved a number of lines, and
-// by the number of lines of the run.
+// Returns the fault of a journal by the result of its worker, which has saved a number of lines,
+// and by the number of lines of the run.
 fn fault_of(saved: Result<u64, JournalFault>, lines: Option<u64>) -> Result<(), Fault>
     ensures fault { result ≡ fault_of_worker saved lines }
     ensures err { IfErr result (λ fault. (fault ≡ Write) ⊎ (fault ≡ Memory)) }

@@ -51,8 +51,8 @@ pub struct MeterRun<F: Drop> {
     /// The text of the trace. Errors: `Turns` if a call was still in its turn; `Memory`.
     pub trace: Result<Octets, Fault>,
     /// Whether each line of the run is on the disk; `Ok` also if the meter has no journal. Errors:
-    /// `Write` if the journal failed; `Memory` if it was not started, or it is not known that it has
-    /// all lines.
+    /// `Write` if the journal failed; `Memory` if it was not started, or it is not known that it
+    /// has all lines.
     pub journal: Result<(), Fault>,
     /// The journal's file, also if the journal has failed; `None` if there is none, or it was not
     /// started.

@@ -30,7 +30,8 @@ client_steps IsDurable HasEnded WasRunning None = PortSteps
 client_steps IsDurable HasEnded WasRunning (Some journal) =
     JournalSteps IsDurable HasEnded WasRunning
 
--- the same by the terms on which the client is served
+-- whether a call through a client's port had this result, by the terms on which the client is
+-- served
 abbrev pub steps_by : (IsDurable : Calls → ℕ → Type 0) → (HasEnded : Type 0)
     → (WasRunning : MeterPort → Type 0) → (terms : List ℕ) → MeterPort → Event
     → Result Reply CallFault → MeterPort → Type 0

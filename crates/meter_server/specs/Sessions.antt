@@ -30,10 +30,10 @@ pub record AsksThrough (password : List ℕ) (p q : MeterPort) : Type 0 where
   pub are : AreAsked password asked
   pub entered : events_by p.known.number q ≡ events_by p.known.number p ++ asked
 
--- Whether the session of a client went through the port p, which it left as q. `reader` and `writer`
--- are the client's streams, from which nothing had been read and to which nothing had been written,
--- and `read` and `written` what the session left of them. Each call of the port is a step, and the
--- management client has this password.
+-- Whether the session of a client went through the port p, which it left as q. `reader` and
+-- `writer` are the client's streams, from which nothing had been read and to which nothing had been
+-- written, and `read` and `written` what the session left of them. Each call of the port is a step,
+-- and the management client has this password.
 pub record ServesClient {I O : Type 0} (remaining : I → Option (List ℕ))
     (contents : O → Option (List ℕ))
     (steps : MeterPort → Event → Result Reply CallFault → MeterPort → Type 0)

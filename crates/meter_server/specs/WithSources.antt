@@ -63,9 +63,9 @@ pub record ServesAll (Serves : MeterPort → MeterPort → Type 0) (sources : Fo
       (Acted q (child p.known.number (p.known.splits + 2)) (AllPresses sources.presses))
 
 -- the port that a result has in both cases
-abbrev pub returned : {A E : Type 0} → Result (MeterPort × A) (MeterPort × E) → MeterPort
-returned (Ok (port, all)) = port
-returned (Err (port, fault)) = port
+abbrev pub port_after : {A E : Type 0} → Result (MeterPort × A) (MeterPort × E) → MeterPort
+port_after (Ok (port, all)) = port
+port_after (Err (port, fault)) = port
 
 -- the rest of such a result
 abbrev pub outcome : {A E : Type 0} → Result (MeterPort × A) (MeterPort × E) → Result A E

@@ -9,7 +9,7 @@ ghost use Rattle.meter_server.specs.ServingAll.{Accounts, EndsWith, IsServed, Is
 ghost use Rattle.meter_server.specs.ServingAll.{worker_fault, first_of};
 ghost use Rattle.meter_server.specs.Sessions.{ServesClient};
 ghost use Rattle.meter_server.specs.WithSources.{Forecasts, ServesAll, ServesWith, first_then};
-ghost use Rattle.meter_server.specs.WithSources.{outcome, returned};
+ghost use Rattle.meter_server.specs.WithSources.{outcome, port_after};
 ghost use Rattle.port_threads.specs.Ports.{PortContinues, AreJoined, AreServed};
 ghost use Rattle.turn_lock.specs.Calls.{IsLegal};
 ghost use Rattle.turn_lock.specs.Shown.{IsSame};
@@ -393,7 +393,7 @@ pub fn serve_all<
     limit: u64,
 ) -> Result<(Port<Kept>, Served), (Port<Kept>, ServeFault)>
     requires { IsPassword password.now }
-    ensures lawful { IsLegal IsLegalRun (returned result).known }
+    ensures lawful { IsLegal IsLegalRun (port_after result).known }
     ensures serves { ServesAll
         (ServesClient L.Input.remaining L.Output.contents PortSteps password.now)
         (record {
@@ -401,10 +401,10 @@ pub fn serve_all<
           moments = M.forecast moments;
           presses = U.forecast buttons;
         })
-        port (returned result) (outcome result) }
+        port (port_after result) (outcome result) }
     ensures accounts { Accounts limit
         (counts_of L.accepted L.setup_failures listener.old)
-        (counts_of L.accepted L.setup_failures listener.new) (IsSpent (returned result))
+        (counts_of L.accepted L.setup_failures listener.new) (IsSpent (port_after result))
         (L.has_failed listener.new) (outcome result) }
 {
     let sources = Sources {

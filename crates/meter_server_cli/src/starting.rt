@@ -197,8 +197,8 @@ fn report_no_journal(rt: &HostRuntime, log: &Log, options: &ServeOptions) {
 }
 
 // Prepares a server up to the first client: validates the options, reads the trace to resume from,
-// opens the journal, listens, and opens the relay. The server has the limits and the password of the
-// options, a journal if they name one, at their path, and a relay if they name one.
+// opens the journal, listens, and opens the relay. The server has the limits and the password of
+// the options, a journal if they name one, at their path, and a relay if they name one.
 pub(crate) fn begin(rt: &HostRuntime, log: &Log, options: &ServeOptions) -> Result<Server, Fault>
     ensures bounds { IfOk result (λ server. server.plan.bounds ≡ options.now.bounds) }
     ensures password { IfOk result

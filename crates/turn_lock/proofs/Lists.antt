@@ -1,7 +1,7 @@
 -- Lists that begin with others, the calls of one port in a history, and the numbers of ports.
 use Rattle.std.proofs.Common.{◌≡◌, ◌≢◌, ◌⊎◌, ℕ, ◌+◌, ◌≤◌, Bool, true, false, ◌&&◌, ◌==◌, if◌then◌else◌, List, [], ◌∷◌, ◌++◌, length, sym, refl, ap, ◌∙◌, inl, inr, ⊎_elim, arith, eq-eqb, eqb-true, length-append, le_refl}
 use Rattle.std.proofs.lemmas.List.{append-nil, append_assoc, append_cancel_left}
-use Rattle.turn_lock.specs.declared.known.Joined.{Joined}
+use Rattle.turn_lock.specs.declared.known.JoinedPort.{JoinedPort}
 use Rattle.turn_lock.specs.declared.turned.Entry.{Entry}
 use Rattle.turn_lock.specs.History.{StartsWith, IsAmong, IsBelow, is_same_number, IsFuture, entry, calls_by}
 
@@ -145,15 +145,15 @@ apart-not-front p k q n =
     not_true _ (λ t. n (front_is_future p k q (has_front-true (p ++ k ∷ []) q t)))
 
 -- a member of two joined lists is in the first, is the element between them, or is in the second
-pub among-append : (q : List ℕ) (p : Joined) (xs ys : List Joined) → IsAmong q (xs ++ p ∷ ys)
-    → IsAmong q xs ⊎ ((q ≡ p.number) ⊎ IsAmong q ys)
+pub among-append : (q : List ℕ) (p : JoinedPort) (xs ys : List JoinedPort)
+    → IsAmong q (xs ++ p ∷ ys) → IsAmong q xs ⊎ ((q ≡ p.number) ⊎ IsAmong q ys)
 among-append q p [] ys m = inr m
 among-append q p (x ∷ xs) ys m = ⊎_elim (λ e. inl (inl e))
     (λ r. ⊎_elim (λ a. inl (inr a)) inr (among-append q p xs ys r)) m
 
 -- the same of a number below a port
-pub below-append : (q : List ℕ) (p : Joined) (xs ys : List Joined) → IsBelow q (xs ++ p ∷ ys)
-    → IsBelow q xs ⊎ (IsFuture p.number p.splits q ⊎ IsBelow q ys)
+pub below-append : (q : List ℕ) (p : JoinedPort) (xs ys : List JoinedPort)
+    → IsBelow q (xs ++ p ∷ ys) → IsBelow q xs ⊎ (IsFuture p.number p.splits q ⊎ IsBelow q ys)
 below-append q p [] ys m = inr m
 below-append q p (x ∷ xs) ys m = ⊎_elim (λ e. inl (inl e))
     (λ r. ⊎_elim (λ a. inl (inr a)) inr (below-append q p xs ys r)) m

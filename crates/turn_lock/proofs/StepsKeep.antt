@@ -9,7 +9,7 @@ use Rattle.std.proofs.Math.Nat.{mod-eq_of_lt}
 use Rattle.atomic_table.specs.Table.{State, Me, step, Act, keeps, takes, gives, Valid, carried_after, homes_after, stepped, Allows, Splits, Joins, opening, Final, Seen}
 use Rattle.atomic_table.proofs.Lists.{at_set, set_else, exchanged}
 use Rattle.turn_lock.specs.declared.turned.Entry.{Entry}
-use Rattle.turn_lock.specs.declared.known.Joined.{Joined}
+use Rattle.turn_lock.specs.declared.known.JoinedPort.{JoinedPort}
 use Rattle.turn_lock.specs.declared.known.Known.{Known}
 use Rattle.turn_lock.specs.declared.known.View.{View}
 use Rattle.turn_lock.specs.declared.known.Stage.{Stage}
@@ -863,7 +863,7 @@ module _ {T E R O : Type 0} (origin : T → O) (stands : T → List (Entry E R) 
   other_view b u = record { known = u; is_port = b; stage = Idle }
 
   -- a port, once it was joined in
-  abbrev as_joined : Known E R O → Joined
+  abbrev as_joined : Known E R O → JoinedPort
   as_joined u = record { number = u.number; splits = u.splits }
 
   merge_port : (m : Mo) (i : ℕ) (k : Known E R O) (b : Bool) (u : Known E R O)
@@ -1083,8 +1083,8 @@ module _ {T E R O : Type 0} (origin : T → O) (stands : T → List (Entry E R) 
     own_stays : (q : List ℕ) → IsOwn k q → Forked.holder q ≡ i
     own_stays q o =
         let n : has_front (next_number k) q ≡ false = apart-not-front k.number k.splits q
-        (λ t. ⊎_elim (λ e. future-not-self k.number k.splits q t e) (λ a. (mine.apart q (inl a)).1 t)
-        o) in
+        (λ t. ⊎_elim (λ e. future-not-self k.number k.splits q t e)
+        (λ a. (mine.apart q (inl a)).1 t) o) in
         forked_else m.holder (next_number k) new q n ∙ (mine.own q o).0
 
     split_mine : (v : V) → v.known ≡ k → v.stage ≡ Idle → Fit m i v

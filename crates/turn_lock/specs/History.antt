@@ -1,6 +1,6 @@
 -- Histories of calls, and the numbers of the ports that made them.
 use Rattle.std.specs.Prelude.{◌≡◌, ◌⊎◌, ℕ, ◌≤◌, Bool, true, false, ◌&&◌, ◌==◌, if◌then◌else◌, List, [], ◌∷◌, ◌++◌}
-use Rattle.turn_lock.specs.declared.known.Joined.{Joined}
+use Rattle.turn_lock.specs.declared.known.JoinedPort.{JoinedPort}
 use Rattle.turn_lock.specs.declared.turned.Entry.{Entry}
 
 -- whether the list xs begins with the list ys
@@ -8,7 +8,7 @@ abbrev pub StartsWith : {A : Type 0} → List A → List A → Type 0
 StartsWith {A} xs ys = (rest : List A) × (xs ≡ ys ++ rest)
 
 -- whether q is the number of one of these ports
-abbrev pub IsAmong : List ℕ → List Joined → Type 0
+abbrev pub IsAmong : List ℕ → List JoinedPort → Type 0
 IsAmong q [] = ⊥
 IsAmong q (port ∷ ports) = (q ≡ port.number) ⊎ IsAmong q ports
 
@@ -29,12 +29,12 @@ pub record IsFuture (number : List ℕ) (splits : ℕ) (q : List ℕ) : Type 0 w
 
 -- whether q is the number of a port that a later split of one of these ports, or of its
 -- descendants, may make
-abbrev pub IsBelow : List ℕ → List Joined → Type 0
+abbrev pub IsBelow : List ℕ → List JoinedPort → Type 0
 IsBelow q [] = ⊥
 IsBelow q (port ∷ ports) = IsFuture port.number port.splits q ⊎ IsBelow q ports
 
 -- whether a port with this number, from which no other was split off, is one of these
-abbrev pub IsLeaf : List ℕ → List Joined → Type 0
+abbrev pub IsLeaf : List ℕ → List JoinedPort → Type 0
 IsLeaf q [] = ⊥
 IsLeaf q (port ∷ ports) = ((q ≡ port.number) × (port.splits ≡ 0)) ⊎ IsLeaf q ports
 

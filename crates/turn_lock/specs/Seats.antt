@@ -4,7 +4,7 @@ use Rattle.atomic_table.specs.Table.{Me}
 use Rattle.atomic_table.specs.Seated.{TableId}
 use Rattle.atomic_table.specs.declared.shared.Seat.{Seat}
 use Rattle.turn_lock.specs.declared.turned.Entry.{Entry}
-use Rattle.turn_lock.specs.declared.known.Joined.{Joined}
+use Rattle.turn_lock.specs.declared.known.JoinedPort.{JoinedPort}
 use Rattle.turn_lock.specs.declared.known.Known.{Known}
 use Rattle.turn_lock.specs.declared.known.View.{View}
 use Rattle.turn_lock.specs.declared.known.Stage.{Stage}
@@ -90,7 +90,7 @@ module _ {E R O : Type 0} where
   }
 
   -- the numbers joined into a port once it has taken in another seat: a port brings its own numbers
-  abbrev pub joined_with : Known E R O → View E R O → List Joined
+  abbrev pub joined_with : Known E R O → View E R O → List JoinedPort
   joined_with known other = if other.is_port
       then known.joined
       ++ record { number = other.known.number; splits = other.known.splits } ∷ other.known.joined

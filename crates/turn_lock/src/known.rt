@@ -5,7 +5,7 @@ use std::collections::LinkedList;
 
 /// A port that was joined into another: its number, and the count of ports that were split off from
 /// it.
-pub struct Joined {
+pub struct JoinedPort {
     pub number: LinkedList<u64>,
     pub splits: u64,
 }
@@ -21,7 +21,7 @@ pub struct Known<E, R, O> {
     pub origin: Option<O>,
     pub number: LinkedList<u64>,
     pub splits: u64,
-    pub joined: LinkedList<Joined>,
+    pub joined: LinkedList<JoinedPort>,
     pub seen: LinkedList<Entry<E, R>>,
     pub drawn: u64,
     pub served: u64,

@@ -15,7 +15,7 @@ mod turned;
 pub use board::MAX_TURNS;
 pub use call_fault::CallFault;
 pub use faults::Busy;
-pub use known::{Joined, Known};
+pub use known::{JoinedPort, Known};
 pub use lock::Shared;
 pub use port::{Note, Port};
 pub use turned::{Entry, Inspected, Turned};

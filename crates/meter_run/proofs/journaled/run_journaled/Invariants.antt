@@ -1,5 +1,5 @@
--- The lock of the run and its file. The run may stop its journal at any time, and nothing is claimed
--- of why it ended.
+-- The lock of the run and its file. The run may stop its journal at any time, and nothing is
+-- claimed of why it ended.
 use Rattle.std.specs.Prelude.{⊤}
 use Rattle.durable_lines.specs.Lines.{lines_in}
 use Rattle.meter_run.proofs.journaled.run_journaled.Given as goal

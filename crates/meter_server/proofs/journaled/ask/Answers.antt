@@ -67,7 +67,8 @@ returns-then-settle-clause-step g c =
       },
       subst (λ (lines : ℕ). AreDurable g.D.Durability.is_durable c.settle.new.port.known.seen lines)
           (found_count between.known.seen c.in_ok-reply.found
-          c.in-Count.lines c.in-Count.is c.in_ok-reply.ensures.finds.2) (c.settle.ensures.durable c.if-settle.true),
+          c.in-Count.lines c.in-Count.is c.in_ok-reply.ensures.finds.2)
+          (c.settle.ensures.durable c.if-settle.true),
       λ changing. elim c.else-not-is_read.branch [
         | else-not-is_read-via-then-not-is_read+else-has_failed w ↦
             w.has_failed.ensures.running w.if-has_failed.false
