@@ -3,7 +3,7 @@
 use Rattle.std.proofs.Common.{◌≡◌, ℕ, List, [], ◌∷◌, ◌++◌, refl, sym, ◌∙◌, ap, subst, inl, inr, arith, append_assoc, append-nil}
 use Rattle.turn_lock.specs.declared.turned.Entry.{Entry}
 use Rattle.turn_lock.specs.declared.known.Known.{Known}
-use Rattle.turn_lock.specs.declared.known.Joined.{Joined}
+use Rattle.turn_lock.specs.declared.known.JoinedPort.{JoinedPort}
 use Rattle.turn_lock.specs.History.{StartsWith, IsAmong, IsBelow, IsLeaf, calls_by}
 use Rattle.turn_lock.specs.Rule.{IsOwn}
 use Rattle.turn_lock.specs.Calls.{Joins, parent_after_split}
@@ -17,31 +17,31 @@ pub starts_trans : {A : Type 0} (xs ys zs : List A) → StartsWith ys xs → Sta
     → StartsWith zs xs
 starts_trans xs ys zs s t = (s.0 ++ t.0, t.1 ∙ ap (λ ws. ws ++ t.0) s.1 ∙ append_assoc xs s.0 t.0)
 
-pub among_front : (n : List ℕ) (ms ns : List Joined) → IsAmong n ms → IsAmong n (ms ++ ns)
+pub among_front : (n : List ℕ) (ms ns : List JoinedPort) → IsAmong n ms → IsAmong n (ms ++ ns)
 among_front n [] ns h = absurd h
 among_front n (m ∷ ms) ns h = elim h [ inl e ↦ inl e | inr later ↦ inr (among_front n ms ns later) ]
 
-pub among_at : {n : List ℕ} (m : Joined) → m.number ≡ n → (ms ns : List Joined)
+pub among_at : {n : List ℕ} (m : JoinedPort) → m.number ≡ n → (ms ns : List JoinedPort)
     → IsAmong n (ms ++ m ∷ ns)
 among_at m e [] ns = inl (sym e)
 among_at m e (k ∷ ms) ns = inr (among_at m e ms ns)
 
-pub leaf_front : (n : List ℕ) (ms ns : List Joined) → IsLeaf n ms → IsLeaf n (ms ++ ns)
+pub leaf_front : (n : List ℕ) (ms ns : List JoinedPort) → IsLeaf n ms → IsLeaf n (ms ++ ns)
 leaf_front n [] ns h = absurd h
 leaf_front n (m ∷ ms) ns h = elim h [ inl e ↦ inl e | inr later ↦ inr (leaf_front n ms ns later) ]
 
-pub leaf_at : {n : List ℕ} (m : Joined) → m.number ≡ n → m.splits ≡ 0 → (ms ns : List Joined)
+pub leaf_at : {n : List ℕ} (m : JoinedPort) → m.number ≡ n → m.splits ≡ 0 → (ms ns : List JoinedPort)
     → IsLeaf n (ms ++ m ∷ ns)
 leaf_at m e none [] ns = inl (sym e, none)
 leaf_at m e none (k ∷ ms) ns = inr (leaf_at m e none ms ns)
 
 -- a port from which none was split off is one of those that were joined in
-pub leaf_among : (n : List ℕ) (ms : List Joined) → IsLeaf n ms → IsAmong n ms
+pub leaf_among : (n : List ℕ) (ms : List JoinedPort) → IsLeaf n ms → IsAmong n ms
 leaf_among n [] h = absurd h
 leaf_among n (m ∷ ms) h = elim h [ inl e ↦ inl e.0 | inr later ↦ inr (leaf_among n ms later) ]
 
 -- and no port has a number that begins with its number
-pub leaf_below : (n : List ℕ) (count : ℕ) (rest : List ℕ) (ms : List Joined) → IsLeaf n ms
+pub leaf_below : (n : List ℕ) (count : ℕ) (rest : List ℕ) (ms : List JoinedPort) → IsLeaf n ms
     → IsBelow (n ++ count ∷ rest) ms
 leaf_below n count rest [] h = absurd h
 leaf_below n count rest (m ∷ ms) h = elim h [
@@ -56,7 +56,7 @@ leaf_below n count rest (m ∷ ms) h = elim h [
 
 module _ {E R O : Type 0} where
   -- a port, once it was joined in
-  abbrev pub as_joined : Known E R O → Joined
+  abbrev pub as_joined : Known E R O → JoinedPort
   as_joined u = record { number = u.number; splits = u.splits }
 
   own_later : (p q : ShownPort E R O) → PortContinues p q → (n : List ℕ) → IsOwn p.known n
