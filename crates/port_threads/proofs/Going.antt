@@ -30,8 +30,8 @@ pub leaf_front : (n : List ℕ) (ms ns : List JoinedPort) → IsLeaf n ms → Is
 leaf_front n [] ns h = absurd h
 leaf_front n (m ∷ ms) ns h = elim h [ inl e ↦ inl e | inr later ↦ inr (leaf_front n ms ns later) ]
 
-pub leaf_at : {n : List ℕ} (m : JoinedPort) → m.number ≡ n → m.splits ≡ 0 → (ms ns : List JoinedPort)
-    → IsLeaf n (ms ++ m ∷ ns)
+pub leaf_at : {n : List ℕ} (m : JoinedPort) → m.number ≡ n → m.splits ≡ 0
+    → (ms ns : List JoinedPort) → IsLeaf n (ms ++ m ∷ ns)
 leaf_at m e none [] ns = inl (sym e, none)
 leaf_at m e none (k ∷ ms) ns = inr (leaf_at m e none ms ns)
 
