@@ -1,4 +1,4 @@
-use Rattle.std.specs.Prelude.{◌∷◌, ⊤}
+use Rattle.std.specs.Prelude.{◌∷◌, [], ⊤}
 use Rattle.meter_run.specs.Journaled.{AnyEnd, IsOnDisk}
 use Rattle.meter_server.proofs.JournalLemmas.{client_answered}
 use Rattle.crashed_runs.proofs.laws.sessions_of_a_run_are_answered.Goals as goal
