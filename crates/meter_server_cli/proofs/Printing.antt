@@ -5,7 +5,7 @@ use Rattle.meter_run.specs.Journaled.{AnyEnd, IsOnDisk, IsRun, first_port, sessi
 use Rattle.meter_run.specs.Runs.{IsRunFrom}
 use Rattle.meter_run.proofs.RunLemmas.{run_as}
 use Rattle.meter_server.proofs.JournalLemmas.{journal_steps}
-use Rattle.meter_server.proofs.PortLemmas.{ArePortSteps, port_steps}
+use Rattle.meter_server.proofs.PortLemmas.{port_steps}
 use Rattle.meter_server.proofs.SessionLemmas.{client_asks}
 use Rattle.meter_server.specs.ServingAll.{IsLimit}
 use Rattle.meter_server.specs.Sessions.{AsksThrough, ServesClient}

@@ -7,7 +7,7 @@ ghost use Rattle.meter_journal.specs.declared.fault.JournalFault.{JournalFault};
 
 use crate::fronts::{FIRST, first_file};
 use crate::meters::asked_port;
-use durable_lines::{DurableFile, MemoryFile, recover};
+use durable_lines::{DurableFile, FileFault, MemoryFile, recover};
 use meter_journal::{FailureAction, JournalFault, JournalIdentity, JournalProgress, JournalWorker};
 use port_threads::Worker;
 use shared_meter::{Durability, Kept};
@@ -15,7 +15,7 @@ use std::alloc::Global;
 use std::marker::Brand;
 use std::sync::Wait;
 use std::test::Fail;
-use turn_lock::{CallFault, Port};
+use turn_lock::Port;
 
 /// Does nothing when a journal fails.
 #[derive(Drop)]
@@ -26,7 +26,8 @@ impl FailureAction for Nothing {
 }
 
 /// Runs the worker of a journal that is asked to stop, through a port. Returns the journal's handle
-/// with the port, and the result of the work, as far as there was memory for them.
+/// with the port, and the number of lines that were saved or the fault, as far as there was memory
+/// for them.
 pub(crate) fn run_journal<L: JournalIdentity + Send + Sync, W: Wait>(
     rt: &W,
     alloc: Global,
@@ -34,7 +35,7 @@ pub(crate) fn run_journal<L: JournalIdentity + Send + Sync, W: Wait>(
     mut port: Port<Kept>,
 ) -> (
     Option<(JournalProgress<MemoryFile, L>, Port<Kept>)>,
-    Option<Result<(), CallFault>>,
+    Option<Result<u64, JournalFault>>,
 )
     requires settled { let D = ⟦<MemoryFile as DurableFile>⟧
         in IsSettled D.seen D.may_leave D.identity D.stored file }
@@ -56,7 +57,8 @@ pub(crate) fn run_journal<L: JournalIdentity + Send + Sync, W: Wait>(
     let Ok(worker) = JournalWorker::new(alloc, file, &progress, Nothing, 64) else {
         return (Some((progress, port)), None);
     };
-    let (back, end) = worker.work(rt, alloc, port);
+    let (back, (file, end)) = worker.work(rt, alloc, port);
+    drop(file);
     (Some((progress, back)), Some(end))
 }
 
@@ -64,7 +66,7 @@ pub(crate) fn run_journal<L: JournalIdentity + Send + Sync, W: Wait>(
 #[derive(Clone, Copy, Debug, PartialEq, Eq)]
 struct Waits {
     /// The result of the worker.
-    end: Option<Result<(), CallFault>>,
+    end: Option<Result<u64, JournalFault>>,
     /// Whether a wait for no line returned true.
     has_none: bool,
     /// Whether a wait for one line returned true, by another handle.
@@ -131,7 +133,7 @@ fn a_wait_returns_true_for_saved_lines(rt: HostRuntime) -> Result<(), Fail> {
     let mut file = first_file(alloc)?;
     recover(alloc, &mut file)?;
     let waits = waits_after::<Brand, _>(&rt, alloc, file, port).ok_or("no journal")?;
-    assert!(rt; waits.end == Some(Ok(())));
+    assert!(rt; waits.end == Some(Ok(3)));
     assert!(rt; waits.has_none && waits.has_one && waits.has_three);
     assert!(rt; !waits.has_four && !waits.has_failed);
     assert!(rt; waits.lines == 3);
@@ -145,7 +147,7 @@ fn a_wait_returns_false_if_the_sync_fails(rt: HostRuntime) -> Result<(), Fail> {
     let mut file = MemoryFile::failing_after(alloc, FIRST.to_vec(alloc)?, 2);
     recover(alloc, &mut file)?;
     let waits = waits_after::<Brand, _>(&rt, alloc, file, port).ok_or("no journal")?;
-    assert!(rt; waits.end == Some(Err(CallFault::Journal)));
+    assert!(rt; waits.end == Some(Err(JournalFault::File(FileFault::Failed))));
     assert!(rt; waits.has_none && !waits.has_one && !waits.has_three && !waits.has_four);
     assert!(rt; waits.has_failed && waits.lines == 0);
     Ok(())

@@ -7,12 +7,15 @@ returns g c = record {
   printed = trace_printed _ _ _ _ _ c.run_fault.result _ _ _ c.run_fault.ensures.has_ended
       (elim c.match-events.branch [
         | in-Journal w ↦ rw (w.served-is) w.run_with_events.ensures.limited
-        | in-Relay w ↦ rw (w.served-is) w.run_with_events-2.ensures.limited
+        | in-Relay w ↦ rw (w.served-is) w.run_with_events-in-Relay.ensures.limited
         | in-None w ↦ rw (w.served-is) w.run_alone.ensures.limited
       ])
       (elim c.match-events.branch [
-        | in-Journal w ↦ rw (w.served-is, w.output-is) w.run_with_events.ensures.printed
-        | in-Relay w ↦ rw (w.served-is, w.output-is) w.run_with_events-2.ensures.printed
-        | in-None w ↦ rw (w.served-is, w.output-is) w.run_alone.ensures.printed
+        | in-Journal w ↦ rw (w.served-is, w.output-is, w.in-Journal.is)
+            w.run_with_events.ensures.printed
+        | in-Relay w ↦ rw (w.served-is, w.output-is, w.in-Relay.is)
+            w.run_with_events-in-Relay.ensures.printed
+        | in-None w ↦ rw (w.served-is, w.output-is, w.in-None.is)
+            w.run_alone.ensures.printed
       ]);
 }
