@@ -4,6 +4,7 @@ use Rattle.std.proofs.Common.{refl, take, sym, ap, ◌∙◌, subst, arith, appe
 use Rattle.std.proofs.lemmas.List.{take_all}
 use Rattle.std.specs.Prelude.{codes}
 use Rattle.durable_lines.specs.CrashModel.{LeavesOnly}
+use Rattle.durable_lines.specs.FileModel.{FileModel}
 use Rattle.durable_lines.specs.Holding.{Holds, HoldsAfter, IsSameOrRenewed}
 use Rattle.durable_lines.specs.Lines.{lines_in, IsBetween}
 use Rattle.durable_lines.proofs.Moments.{leaves_as, leaves_then}
@@ -59,10 +60,9 @@ module _ (Renews : List ℕ → List ℕ → Type 0) where
     },
   )
 
-  module _ {F : Type 0} (seen : F → List ℕ) (moment : F → ℕ)
-      (left_since : F → ℕ → List ℕ → Type 0) where
+  module _ {F : Type 0} (model : FileModel F) where
     -- a crash leaves a front of the further lines
-    abbrev pub HoldsFront : Lines → Lines → Lines → List ℕ → Type 0
+    abbrev HoldsFront : Lines → Lines → Lines → List ℕ → Type 0
     HoldsFront first lines more c = (k : ℕ) × (k ≤ length more)
         × Holds Renews first (lines ++ take k more) c
 
@@ -75,35 +75,33 @@ module _ (Renews : List ℕ → List ℕ → Type 0) where
     )
 
     pub front_leaves : (old new : F) (first lines more : Lines)
-        → Holds Renews first lines (seen old)
-        → LeavesOnly moment left_since old new
-        (λ c. IsBetween (lines_in (seen old)) more (lines_in c))
-        → LeavesOnly moment left_since old new (HoldsFront first lines more)
+        → Holds Renews first lines (model.seen old)
+        → LeavesOnly model old new (λ c. IsBetween (lines_in (model.seen old)) more (lines_in c))
+        → LeavesOnly model old new (HoldsFront first lines more)
     front_leaves old new first lines more held leaves =
-        leaves_as moment left_since old new
-        (λ c. IsBetween (lines_in (seen old)) more (lines_in c)) (HoldsFront first lines more)
-        (λ c between. front_held first lines more (seen old) c held between) leaves
+        leaves_as model old new (λ c. IsBetween (lines_in (model.seen old)) more (lines_in c))
+        (HoldsFront first lines more)
+        (λ c between. front_held first lines more (model.seen old) c held between) leaves
 
     -- an append, and then a renewal
     pub renewed_leaves : (old mid new : F) (first lines more : Lines)
-        → Holds Renews first lines (seen old)
-        → LeavesOnly moment left_since old mid
-        (λ c. IsBetween (lines_in (seen old)) more (lines_in c))
-        → lines_in (seen mid) ≡ lines_in (seen old) ++ more
-        → LeavesOnly moment left_since mid new (IsSameOrRenewed Renews (seen mid))
-        → LeavesOnly moment left_since old new (HoldsFront first lines more)
+        → Holds Renews first lines (model.seen old)
+        → LeavesOnly model old mid (λ c. IsBetween (lines_in (model.seen old)) more (lines_in c))
+        → lines_in (model.seen mid) ≡ lines_in (model.seen old) ++ more
+        → LeavesOnly model mid new (IsSameOrRenewed Renews (model.seen mid))
+        → LeavesOnly model old new (HoldsFront first lines more)
     renewed_leaves old mid new first lines more held append is renew =
-        leaves_then moment left_since old mid new (HoldsFront first lines more)
+        leaves_then model old mid new (HoldsFront first lines more)
         (front_leaves old mid first lines more held append)
-        (leaves_as moment left_since mid new (IsSameOrRenewed Renews (seen mid))
+        (leaves_as model mid new (IsSameOrRenewed Renews (model.seen mid))
         (HoldsFront first lines more)
         (λ c same. (
           length more,
           omega arith,
           subst (λ (ls : Lines). Holds Renews first (lines ++ ls) c)
               (sym (take_all (length more) more (omega arith)))
-              (holds_renewed first (lines ++ more) (seen mid) c same
-              (holds_more first lines more (seen old) (seen mid) is held)),
+              (holds_renewed first (lines ++ more) (model.seen mid) c same
+              (holds_more first lines more (model.seen old) (model.seen mid) is held)),
         )) renew)
 
 -- ---- examples and files that are never renewed

@@ -8,6 +8,7 @@ use Rattle.durable_lines.specs.CrashModel.{Elapses, Follows, IsTorn, Narrows, Ha
 use Rattle.durable_lines.specs.CrashModel.{TornAppend, TornCut}
 use Rattle.durable_lines.specs.FileState.{State, synced_with, IsLeft, after_append}
 use Rattle.durable_lines.specs.RawFile.{CutsOrStays, HasFront, LeftNow, ReadsPiece}
+use Rattle.durable_lines.specs.RawModel.{RawModel, AppendsFront, CallsRaw}
 use Rattle.durable_lines.proofs.StateLemmas.{append_follows, cut_follows, only_synced, uncut}
 
 -- what an append leaves, a longer one may leave
@@ -35,38 +36,6 @@ appended_none s =
     ap (λ (added : List ℕ). record { synced = s.synced; kept = s.kept; added = added })
     (sym (append-nil s.added))
 
--- two calls, the second of which appends
-pub elapses_append : (acts : Type 0) (m0 m1 m2 : ℕ) (l0 l1 l2 : ℕ → List ℕ → Type 0)
-    (s1 s2 : State) (bytes : List ℕ) → Elapses m0 m1 l0 l1 (LeftNow acts s1)
-    → Elapses m1 m2 l1 l2 (LeftNow acts s2) → (acts → HasFront bytes s1 s2)
-    → Elapses m0 m2 l0 l2 (LeftNow acts s2)
-elapses_append acts m0 m1 m2 l0 l1 l2 s1 s2 bytes one two front =
-    let low : m0 ≤ m1 = one.later in
-    record {
-      later = omega (arith, one.later, two.later);
-      nothing_else = λ t c le since.
-          ⊎_elim
-          (λ had. ⊎_elim (λ was. inl was)
-          (λ now. inr (
-            now.0,
-            (let f = front now.0 in
-                subst (λ (s : State). IsLeft s c) (sym f.3) (left_appended f.0 s1 c now.1)),
-          ))
-          (one.nothing_else t c le had))
-          (λ now. inr now)
-          (two.nothing_else t c (omega (arith, le, low)) since);
-      keeps = λ t c le was. two.keeps t c (omega (arith, le, low)) (one.keeps t c le was);
-    }
-
--- two calls, the second of which changes no bytes
-pub elapses_same : (acts : Type 0) (m0 m1 m2 : ℕ) (l0 l1 l2 : ℕ → List ℕ → Type 0)
-    (s1 s2 : State) → Elapses m0 m1 l0 l1 (LeftNow acts s1)
-    → Elapses m1 m2 l1 l2 (LeftNow acts s2) → (acts → s2 ≡ s1)
-    → Elapses m0 m2 l0 l2 (LeftNow acts s2)
-elapses_same acts m0 m1 m2 l0 l1 l2 s1 s2 one two same =
-    elapses_append acts m0 m1 m2 l0 l1 l2 s1 s2 [] one two
-    (λ a. ([], [], refl, same a ∙ appended_none s1))
-
 -- a write has appended the first of its bytes, to a file that was as before
 pub front_written : (count : ℕ) (bytes : List ℕ) (s0 s1 s2 : State)
     → s2 ≡ after_append (take count bytes) s1 → s1 ≡ s0 → HasFront bytes s0 s2
@@ -76,15 +45,6 @@ front_written count bytes s0 s1 s2 wrote same = (
   sym (take-append-drop count bytes),
   wrote ∙ ap (after_append (take count bytes)) same,
 )
-
--- The writes so far: a raw file was given the bytes before the rest.
-pub record WritesTo (acts : Type 0) (m0 m1 : ℕ) (l0 l1 : ℕ → List ℕ → Type 0) (old now : State)
-    (id0 id1 : ℕ) (bytes rest : List ℕ) : Type 0 where
-  pub front : List ℕ
-  pub split : bytes ≡ front ++ rest
-  pub state : acts → now ≡ after_append front old
-  pub one : id1 ≡ id0
-  pub time : Elapses m0 m1 l0 l1 (LeftNow acts now)
 
 -- a front of the rest of some bytes, after the first of them
 front_on : (first rest : List ℕ) (s0 s1 s2 : State) (bytes : List ℕ) → bytes ≡ first ++ rest
@@ -96,31 +56,74 @@ front_on first rest s0 s1 s2 bytes split was f = (
   f.3 ∙ ap (after_append f.0) was ∙ appended_twice first f.0 s0,
 )
 
--- a write has taken the first bytes of the rest
-pub writes_more : (acts : Type 0) (m0 m1 m2 : ℕ) (l0 l1 l2 : ℕ → List ℕ → Type 0)
-    (s0 s1 s2 : State) (i0 i1 i2 : ℕ) (bytes rest : List ℕ) (count : ℕ)
-    → WritesTo acts m0 m1 l0 l1 s0 s1 i0 i1 bytes rest
-    → (acts → s2 ≡ after_append (take count rest) s1) → i2 ≡ i1
-    → Elapses m1 m2 l1 l2 (LeftNow acts s2)
-    → WritesTo acts m0 m2 l0 l2 s0 s2 i0 i2 bytes (drop count rest)
-writes_more acts m0 m1 m2 l0 l1 l2 s0 s1 s2 i0 i1 i2 bytes rest count so wrote same time = record {
-  front = so.front ++ take count rest;
-  split = so.split
-      ∙ ap (λ (bs : List ℕ). so.front ++ bs) (sym (take-append-drop count rest))
-      ∙ sym (append_assoc so.front (take count rest) (drop count rest));
-  state = λ a. wrote a ∙ ap (after_append (take count rest)) (so.state a)
-      ∙ appended_twice so.front (take count rest) s0;
-  one = same ∙ so.one;
-  time = elapses_append acts m0 m1 m2 l0 l1 l2 s1 s2 rest so.time time
-      (λ a. (take count rest, drop count rest, sym (take-append-drop count rest), wrote a));
-}
+module _ {R : Type 0} (model : RawModel R) where
+  -- two calls, the second of which appends
+  pub then_append : (old mid new : R) (first last fails : Type 0) (bytes : List ℕ)
+      → CallsRaw model old mid first → CallsRaw model mid new last
+      → AppendsFront model bytes mid new → (fails → last) → CallsRaw model old new fails
+  then_append old mid new first last fails bytes one two front ends =
+      let low : model.moment old ≤ model.moment mid = one.time.later in
+      record {
+        time = record {
+          later = omega (arith, one.time.later, two.time.later);
+          nothing_else = λ t c le since.
+              ⊎_elim
+              (λ had. ⊎_elim (λ was. inl was)
+              (λ now. inr (
+                now.0,
+                (let f = front now.0 in
+                    subst (λ (s : State). IsLeft s c) (sym f.3)
+                    (left_appended f.0 (model.state mid) c now.1)),
+              ))
+              (one.time.nothing_else t c le had))
+              (λ now. inr now)
+              (two.time.nothing_else t c (omega (arith, le, low)) since);
+          keeps = λ t c le was.
+              two.time.keeps t c (omega (arith, le, low)) (one.time.keeps t c le was);
+        };
+        identity = two.identity ∙ one.identity;
+        failed = λ fail. two.failed (ends fail);
+        remains_failed = λ was. two.remains_failed (one.remains_failed was);
+      }
 
--- a front of the bytes was written, also by a write that has failed
-pub writes_failed : (acts : Type 0) (m0 m1 : ℕ) (l0 l1 : ℕ → List ℕ → Type 0) (s0 s1 s2 : State)
-    (i0 i1 : ℕ) (bytes rest : List ℕ) → WritesTo acts m0 m1 l0 l1 s0 s1 i0 i1 bytes rest
-    → (acts → HasFront rest s1 s2) → acts → HasFront bytes s0 s2
-writes_failed acts m0 m1 l0 l1 s0 s1 s2 i0 i1 bytes rest so front a =
-    front_on so.front rest s0 s1 s2 bytes so.split (so.state a) (front a)
+  -- two calls, the second of which changes no bytes
+  pub then_same : (old mid new : R) (first last fails : Type 0) → CallsRaw model old mid first
+      → CallsRaw model mid new last → model.state new ≡ model.state mid → (fails → last)
+      → CallsRaw model old new fails
+  then_same old mid new first last fails one two same ends =
+      then_append old mid new first last fails [] one two
+      (λ a. ([], [], refl, same ∙ appended_none (model.state mid))) ends
+
+  -- The writes so far: a raw file was given the bytes before the rest.
+  pub record WritesTo (old now : R) (bytes rest : List ℕ) : Type 0 where
+    pub front : List ℕ
+    pub split : bytes ≡ front ++ rest
+    pub state : model.acts → model.state now ≡ after_append front (model.state old)
+    pub calls : CallsRaw model old now ⊥
+
+  -- a write has taken the first bytes of the rest
+  pub writes_more : (old mid new : R) (last : Type 0) (bytes rest : List ℕ) (count : ℕ)
+      → WritesTo old mid bytes rest
+      → (model.acts → model.state new ≡ after_append (take count rest) (model.state mid))
+      → CallsRaw model mid new last → WritesTo old new bytes (drop count rest)
+  writes_more old mid new last bytes rest count so wrote calls = record {
+    front = so.front ++ take count rest;
+    split = so.split
+        ∙ ap (λ (bs : List ℕ). so.front ++ bs) (sym (take-append-drop count rest))
+        ∙ sym (append_assoc so.front (take count rest) (drop count rest));
+    state = λ a. wrote a ∙ ap (after_append (take count rest)) (so.state a)
+        ∙ appended_twice so.front (take count rest) (model.state old);
+    calls = then_append old mid new ⊥ last ⊥ rest so.calls calls
+        (λ a. (take count rest, drop count rest, sym (take-append-drop count rest), wrote a))
+        (λ none. absurd none);
+  }
+
+  -- a front of the bytes was written, also by a write that has failed
+  pub writes_failed : (old mid new : R) (bytes rest : List ℕ) → WritesTo old mid bytes rest
+      → AppendsFront model rest mid new → AppendsFront model bytes old new
+  writes_failed old mid new bytes rest so front a =
+      front_on so.front rest (model.state old) (model.state mid) (model.state new) bytes so.split
+      (so.state a) (front a)
 
 -- nothing is claimed of a file of the operating system
 pub elapses_void : (s : State) → Elapses 0 0 (λ t c. ⊥) (λ t c. ⊥) (LeftNow ⊥ s)

@@ -1,9 +1,11 @@
 -- What a crash during a recovery leaves: the file is synced, read, cut after its lines and synced.
 use Rattle.std.proofs.Common.{◌≡◌, ◌⊎◌, inl, inr, ℕ, List, length, take, sym, ◌∙◌, ap, subst}
-use Rattle.durable_lines.specs.CrashModel.{Elapses, Follows, LeavesOnly, Narrows, HasOneOutcome, TornCut}
+use Rattle.durable_lines.specs.CrashModel.{Follows, LeavesOnly, Narrows, HasOneOutcome, PassesTime}
+use Rattle.durable_lines.specs.CrashModel.{TornCut}
+use Rattle.durable_lines.specs.FileModel.{FileModel}
 use Rattle.durable_lines.specs.Lines.{lines_in, text_of, IsText}
 use Rattle.durable_lines.proofs.LineLemmas.{lines_in-same, take-text}
-use Rattle.durable_lines.proofs.Moments.{begin, then_call}
+use Rattle.durable_lines.proofs.Moments.{one_call, then_call}
 use Rattle.durable_lines.proofs.TornLemmas.{torn_cut}
 
 -- the text of the lines of bytes is a text
@@ -24,48 +26,56 @@ cut_text len old synced read scanned left same reads scans is cut =
     cut ∙ ap (take len) found
     ∙ cut_bytes len old (is ∙ ap (λ l. length (text_of (lines_in l))) (scans ∙ found))
 
-module _ {F : Type 0} (seen : F → List ℕ) (may_leave : F → List ℕ → Type 0) (moment : F → ℕ)
-    (left_since : F → ℕ → List ℕ → Type 0) (old : F) where
+module _ {F : Type 0} (model : FileModel F) (old : F) where
   -- what a crash may leave: what it could before, or the same lines
   abbrev pub SameLines : List ℕ → Type 0
-  SameLines c = may_leave old c ⊎ (lines_in c ≡ lines_in (seen old))
+  SameLines c = model.may_leave old c ⊎ (lines_in c ≡ lines_in (model.seen old))
 
-  -- a call goes from one file to another
-  abbrev pub Runs : F → F → Type 0
-  Runs before now = Elapses (moment before) (moment now) (left_since before) (left_since now)
-      (may_leave now)
+  -- the first sync
+  pub after_sync : (synced : F) → PassesTime model old synced
+      → Narrows (model.may_leave old) (model.may_leave synced)
+      → LeavesOnly model old synced SameLines
+  after_sync synced time narrows =
+      one_call model old synced SameLines (λ c now. inl now) time (λ c now. inl (narrows c now))
 
-  abbrev pub Leaves : F → Type 0
-  Leaves now = LeavesOnly moment left_since old now SameLines
-
-  -- the first sync and the read
-  pub after_sync : (synced : F)
-      → ((c : List ℕ) → left_since old (moment old) c → may_leave old c)
-      → Runs old synced → Narrows (may_leave old) (may_leave synced) → Leaves synced
-  after_sync synced only_now time narrows =
-      then_call moment left_since old old synced SameLines (may_leave synced)
-      (begin moment left_since old SameLines (may_leave old) only_now (λ c now. inl now)) time
-      (λ c now. inl (narrows c now))
-
-  pub after_read : (synced read : F) → Leaves synced → Runs synced read
-      → Narrows (may_leave old) (may_leave synced) → Narrows (may_leave synced) (may_leave read)
-      → Leaves read
+  -- the read
+  pub after_read : (synced read : F) → LeavesOnly model old synced SameLines
+      → PassesTime model synced read → Narrows (model.may_leave old) (model.may_leave synced)
+      → Narrows (model.may_leave synced) (model.may_leave read)
+      → LeavesOnly model old read SameLines
   after_read synced read so_far time narrows reads =
-      then_call moment left_since old synced read SameLines (may_leave read) so_far time
+      then_call model old synced read SameLines so_far time
       (λ c now. inl (narrows c (reads c now)))
 
   -- a crash after the cut leaves the same lines
-  pub cut_lines : (len : ℕ) (read cut : F) → len ≡ length (text_of (lines_in (seen old)))
-      → HasOneOutcome (seen old) (may_leave read)
-      → Follows (TornCut len) (may_leave read) (may_leave cut)
-      → (c : List ℕ) → may_leave cut c → lines_in c ≡ lines_in (seen old)
+  cut_lines : (len : ℕ) (read cut : F) → len ≡ length (text_of (lines_in (model.seen old)))
+      → HasOneOutcome (model.seen old) (model.may_leave read)
+      → Follows (TornCut len) (model.may_leave read) (model.may_leave cut)
+      → (c : List ℕ) → model.may_leave cut c → lines_in c ≡ lines_in (model.seen old)
   cut_lines len read cut is only cuts c now =
       let from = cuts c now in
-      torn_cut len (seen old) c is (subst (λ d. TornCut len d c) (only from.0 from.1) from.2)
+      torn_cut len (model.seen old) c is
+      (subst (λ d. TornCut len d c) (only from.0 from.1) from.2)
 
-  -- the cut and the second sync
-  pub after_cut : (read cut : F) → Leaves read → Runs read cut
-      → ((c : List ℕ) → may_leave cut c → lines_in c ≡ lines_in (seen old)) → Leaves cut
-  after_cut read cut so_far time same =
-      then_call moment left_since old read cut SameLines (may_leave cut) so_far time
-      (λ c now. inr (same c now))
+  -- the cut
+  pub after_cut : (len : ℕ) (read cut : F) → LeavesOnly model old read SameLines
+      → PassesTime model read cut → len ≡ length (text_of (lines_in (model.seen old)))
+      → HasOneOutcome (model.seen old) (model.may_leave read)
+      → Follows (TornCut len) (model.may_leave read) (model.may_leave cut)
+      → LeavesOnly model old cut SameLines
+  after_cut len read cut so_far time is only cuts =
+      then_call model old read cut SameLines so_far time
+      (λ c now. inr (cut_lines len read cut is only cuts c now))
+
+  -- the second sync
+  pub after_resync : (len : ℕ) (read cut synced : F) → LeavesOnly model old read SameLines
+      → PassesTime model read cut → len ≡ length (text_of (lines_in (model.seen old)))
+      → HasOneOutcome (model.seen old) (model.may_leave read)
+      → Follows (TornCut len) (model.may_leave read) (model.may_leave cut)
+      → PassesTime model cut synced
+      → Narrows (model.may_leave cut) (model.may_leave synced)
+      → LeavesOnly model old synced SameLines
+  after_resync len read cut synced so_far time is only cuts sync_time narrows =
+      then_call model old cut synced SameLines
+      (after_cut len read cut so_far time is only cuts) sync_time
+      (λ c now. inr (cut_lines len read cut is only cuts c (narrows c now)))

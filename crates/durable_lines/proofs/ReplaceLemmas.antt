@@ -1,69 +1,76 @@
 -- What a replacement leaves: a draft is created, written and synced, and gets the name.
 use Rattle.std.proofs.Common.{◌≡◌, ◌⊎◌, inl, inr, ⊎_elim, ℕ, List, [], ◌++◌, Result, Ok, Err, OnOk}
 use Rattle.std.proofs.Common.{sym, ◌∙◌, ap, subst}
-use Rattle.durable_lines.specs.CrashModel.{Elapses, HasOneOutcome, LeavesOnly, Narrows}
-use Rattle.durable_lines.specs.Lines.{IsSettled, IsText}
-use Rattle.durable_lines.proofs.Moments.{begin, then_call}
+use Rattle.durable_lines.specs.CrashModel.{HasOneOutcome, LeavesOnly, Narrows, PassesTime}
+use Rattle.durable_lines.specs.FileModel.{FileModel}
+use Rattle.durable_lines.specs.Lines.{IsReady, IsText}
+use Rattle.durable_lines.proofs.Moments.{one_call, then_call}
 
 -- an empty draft has the bytes that are appended to it
-pub draft_bytes : {D : Type 0} (seen : D → List ℕ) (empty appended : D) (bytes : List ℕ)
-    → seen empty ≡ [] → seen appended ≡ seen empty ++ bytes → seen appended ≡ bytes
-draft_bytes seen empty appended bytes none written = written ∙ ap (λ bs. bs ++ bytes) none
+pub draft_bytes : (empty appended bytes : List ℕ) → empty ≡ [] → appended ≡ empty ++ bytes
+    → appended ≡ bytes
+draft_bytes empty appended bytes none written = written ∙ ap (λ bs. bs ++ bytes) none
 
--- the name has the bytes of the draft, which a sync and a rename do not change
-pub named_bytes : (named synced appended bytes : List ℕ) → named ≡ synced → synced ≡ appended
-    → appended ≡ bytes → named ≡ bytes
-named_bytes named synced appended bytes renames syncs is = renames ∙ syncs ∙ is
+-- a crash leaves these bytes of a draft that was synced
+pub draft_outcome : (empty appended bytes : List ℕ) (draft : List ℕ → Type 0) → empty ≡ []
+    → appended ≡ empty ++ bytes → HasOneOutcome appended draft → HasOneOutcome bytes draft
+draft_outcome empty appended bytes draft none written only c left =
+    only c left ∙ draft_bytes empty appended bytes none written
 
-module _ {F : Type 0} (may_leave : F → List ℕ → Type 0) (moment : F → ℕ)
-    (left_since : F → ℕ → List ℕ → Type 0) (old : F) (bytes : List ℕ) where
+module _ {F : Type 0} (model : FileModel F) (old : F) (bytes : List ℕ) where
   -- what a crash may leave: what it could before, or the new bytes
-  abbrev pub OldOrNew : List ℕ → Type 0
-  OldOrNew c = may_leave old c ⊎ (c ≡ bytes)
-
-  -- a call goes from one place to another
-  abbrev pub Runs : F → F → Type 0
-  Runs before now = Elapses (moment before) (moment now) (left_since before) (left_since now)
-      (may_leave now)
-
-  abbrev pub Leaves : F → Type 0
-  Leaves now = LeavesOnly moment left_since old now OldOrNew
+  abbrev OldOrNew : List ℕ → Type 0
+  OldOrNew c = model.may_leave old c ⊎ (c ≡ bytes)
 
   -- the draft is created
-  pub after_create : (created : F)
-      → ((c : List ℕ) → left_since old (moment old) c → may_leave old c) → Runs old created
-      → Narrows (may_leave old) (may_leave created) → Leaves created
-  after_create created only_now time narrows =
-      then_call moment left_since old old created OldOrNew (may_leave created)
-      (begin moment left_since old OldOrNew (may_leave old) only_now (λ c now. inl now)) time
-      (λ c now. inl (narrows c now))
+  pub after_create : (created : F) → PassesTime model old created
+      → Narrows (model.may_leave old) (model.may_leave created)
+      → LeavesOnly model old created OldOrNew
+  after_create created time narrows =
+      one_call model old created OldOrNew (λ c now. inl now) time (λ c now. inl (narrows c now))
 
   -- a crash after the rename leaves the old file or the draft
-  pub old_or_draft : (created renamed : F) (draft : List ℕ → Type 0)
-      → Narrows (may_leave old) (may_leave created) → HasOneOutcome bytes draft
-      → ((c : List ℕ) → may_leave renamed c → may_leave created c ⊎ draft c)
-      → (c : List ℕ) → may_leave renamed c → OldOrNew c
+  old_or_draft : (created renamed : F) (draft : List ℕ → Type 0)
+      → Narrows (model.may_leave old) (model.may_leave created) → HasOneOutcome bytes draft
+      → ((c : List ℕ) → model.may_leave renamed c → model.may_leave created c ⊎ draft c)
+      → (c : List ℕ) → model.may_leave renamed c → OldOrNew c
   old_or_draft created renamed draft narrows only renames c now =
       ⊎_elim (λ was. inl (narrows c was)) (λ new. inr (only c new)) (renames c now)
 
-  -- the rename and the sync of the folder
-  pub after_call : (before now : F) → Leaves before → Runs before now
-      → ((c : List ℕ) → may_leave now c → OldOrNew c) → Leaves now
-  after_call before now so_far time outcomes =
-      then_call moment left_since old before now OldOrNew (may_leave now) so_far time outcomes
+  -- the draft gets the name
+  pub after_rename : (created renamed : F) (draft : List ℕ → Type 0)
+      → PassesTime model old created → Narrows (model.may_leave old) (model.may_leave created)
+      → PassesTime model created renamed → HasOneOutcome bytes draft
+      → ((c : List ℕ) → model.may_leave renamed c → model.may_leave created c ⊎ draft c)
+      → LeavesOnly model old renamed OldOrNew
+  after_rename created renamed draft time narrows rename_time only renames =
+      then_call model old created renamed OldOrNew (after_create created time narrows) rename_time
+      (old_or_draft created renamed draft narrows only renames)
 
-module _ {F : Type 0} (seen : F → List ℕ) (may_leave : F → List ℕ → Type 0)
-    (identity : F → ℕ) (stored : ℕ → List ℕ → Type 0) where
-  -- the sync of the folder settles a text
-  pub settle_named : {T E acts : Type 0} (r : Result T E) (renamed synced : F) (bytes : List ℕ)
-      → (acts → seen renamed ≡ bytes) → (acts → stored (identity synced) bytes)
-      → OnOk r (seen synced ≡ seen renamed)
-      → OnOk r (acts → HasOneOutcome bytes (may_leave synced))
-      → OnOk r (acts → IsText bytes → IsSettled seen may_leave identity stored synced)
-  settle_named (Ok value) renamed synced bytes named kept same only = λ a text.
-      let is = sym (same ∙ named a) in record {
-        text = subst IsText is text;
-        durable = subst (λ bs. HasOneOutcome bs (may_leave synced)) is (only a);
-        kept = subst (stored (identity synced)) is (kept a);
-      }
-  settle_named (Err error) renamed synced bytes named kept same only = same
+  -- the folder is synced
+  pub after_folder : (created renamed synced : F) (draft : List ℕ → Type 0)
+      → PassesTime model old created → Narrows (model.may_leave old) (model.may_leave created)
+      → PassesTime model created renamed → HasOneOutcome bytes draft
+      → ((c : List ℕ) → model.may_leave renamed c → model.may_leave created c ⊎ draft c)
+      → PassesTime model renamed synced
+      → Narrows (model.may_leave renamed) (model.may_leave synced)
+      → LeavesOnly model old synced OldOrNew
+  after_folder created renamed synced draft time narrows rename_time only renames sync_time syncs =
+      then_call model old renamed synced OldOrNew
+      (after_rename created renamed draft time narrows rename_time only renames) sync_time
+      (λ c now. old_or_draft created renamed draft narrows only renames c (syncs c now))
+
+-- the sync of the folder settles a text
+pub settle_named : {F T E : Type 0} (model : FileModel F) (r : Result T E) (renamed synced : F)
+    (bytes : List ℕ) → (model.acts → model.seen renamed ≡ bytes)
+    → (model.acts → model.stored (model.identity synced) bytes)
+    → OnOk r (model.seen synced ≡ model.seen renamed)
+    → OnOk r (model.acts → HasOneOutcome bytes (model.may_leave synced))
+    → OnOk r (IsText bytes → IsReady model synced)
+settle_named model (Ok value) renamed synced bytes named kept same only = λ text a.
+    let is = sym (same ∙ named a) in record {
+      text = subst IsText is text;
+      durable = subst (λ bs. HasOneOutcome bs (model.may_leave synced)) is (only a);
+      kept = subst (model.stored (model.identity synced)) is (kept a);
+    }
+settle_named model (Err error) renamed synced bytes named kept same only = same

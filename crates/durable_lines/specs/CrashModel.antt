@@ -22,8 +22,10 @@
 --     Narrows         each new outcome is an old one
 --     HasOneOutcome     the one possible outcome
 --     Elapses         the outcomes since each earlier moment, from before a call to after it
+--     PassesTime      the same for two values of a file
 --     LeavesOnly      a fact of each outcome since a moment
 use Rattle.std.specs.Prelude.{◌≡◌, ◌⊎◌, ◌≤◌, ℕ, List, [], ◌∷◌, ◌++◌, take, ⊤}
+use Rattle.durable_lines.specs.FileModel.{FileModel}
 
 -- Whether an append may leave this of its bytes: each byte is itself, or 0, or is missing with all
 -- bytes after it.
@@ -62,10 +64,16 @@ pub record Elapses (before now : ℕ) (past since : ℕ → List ℕ → Type 0)
   pub nothing_else : (t : ℕ) (c : List ℕ) → t ≤ before → since t c → past t c ⊎ may_leave c
   pub keeps : (t : ℕ) (c : List ℕ) → t ≤ before → past t c → since t c
 
+-- whether a call that leaves `new` of the file `old` adds only the outcomes of a crash after it
+abbrev pub PassesTime : {F : Type 0} → FileModel F → (old new : F) → Type 0
+PassesTime model old new = Elapses (model.moment old) (model.moment new) (model.left_since old)
+    (model.left_since new) (model.may_leave new)
+
 -- Whether P holds for all bytes that a crash at any moment from `old` to `new` leaves. It also
 -- holds for those of a crash since an earlier moment, unless the crash was before `old`.
-pub record LeavesOnly {F : Type 0} (moment : F → ℕ) (left_since : F → ℕ → List ℕ → Type 0)
-    (old new : F) (P : List ℕ → Type 0) : Type 0 where
-  pub later : moment old ≤ moment new
-  pub each : (c : List ℕ) → left_since new (moment old) c → P c
-  pub before : (t : ℕ) (c : List ℕ) → t ≤ moment old → left_since new t c → left_since old t c ⊎ P c
+pub record LeavesOnly {F : Type 0} (model : FileModel F) (old new : F) (P : List ℕ → Type 0)
+    : Type 0 where
+  pub later : model.moment old ≤ model.moment new
+  pub each : (c : List ℕ) → model.left_since new (model.moment old) c → P c
+  pub before : (t : ℕ) (c : List ℕ) → t ≤ model.moment old → model.left_since new t c
+      → model.left_since old t c ⊎ P c

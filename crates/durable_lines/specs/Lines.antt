@@ -6,11 +6,13 @@
 --     IsBetween       some lines, followed by a front of others
 --     HasLinesAfterDamage   whole lines follow a damaged one
 --     IsSettled       a file of whole lines, all of them on the disk
+--     IsReady         such a file, if files of its type act as the crash model says
 use Rattle.std.specs.Prelude.{◌≡◌, ◌≤◌, ◌==◌, ℕ, List, [], ◌∷◌, ◌++◌, length, take, drop}
 use Rattle.std.specs.Prelude.{if◌then◌else◌}
 unfoldable pub use Rattle.text_lines.specs.Lines.{text_of}
 pub use Rattle.text_lines.specs.Lines.{IsPlain, lines_of}
 use Rattle.durable_lines.specs.CrashModel.{HasOneOutcome}
+use Rattle.durable_lines.specs.FileModel.{FileModel}
 
 -- the whole lines of bytes that follow the beginning of a line, up to the first byte 0
 abbrev pub lines_after : List ℕ → List ℕ → List (List ℕ)
@@ -39,8 +41,12 @@ IsBetween old added lines = (k : ℕ) × (k ≤ length added) × (lines ≡ old 
 
 -- whether a file consists of whole lines, all of them on the disk: a sync of this file returned
 -- while it had these bytes
-pub record IsSettled {F : Type 0} (seen : F → List ℕ) (may_leave : F → List ℕ → Type 0)
-    (identity : F → ℕ) (stored : ℕ → List ℕ → Type 0) (file : F) : Type 0 where
-  pub text : IsText (seen file)
-  pub durable : HasOneOutcome (seen file) (may_leave file)
-  pub kept : stored (identity file) (seen file)
+pub record IsSettled {F : Type 0} (model : FileModel F) (file : F) : Type 0 where
+  pub text : IsText (model.seen file)
+  pub durable : HasOneOutcome (model.seen file) (model.may_leave file)
+  pub kept : model.stored (model.identity file) (model.seen file)
+
+-- whether a file is ready for an append of lines: it is settled, if files of its type act as the
+-- crash model says
+abbrev pub IsReady : {F : Type 0} → FileModel F → F → Type 0
+IsReady model file = model.acts → IsSettled model file

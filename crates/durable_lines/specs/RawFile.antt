@@ -1,20 +1,15 @@
 -- What a call of the operating system does to a file that acts as the crash model says.
 --     LeftNow      what a crash leaves of a file in a state
---     IsAtEnd      the place of the next call is the end of the file
 --     HasFront     an append of a front of bytes
 --     ReadsPiece   a read of the bytes from a place on
 --     CutsOrStays  a cut that was made, or not
 use Rattle.std.specs.Prelude.{◌≡◌, ◌⊎◌, ◌+◌, ◌<◌, ◌≤◌, ℕ, List, [], ◌++◌, length, take, drop}
-use Rattle.durable_lines.specs.FileState.{State, seen_of, IsLeft, after_append, after_cut}
+use Rattle.durable_lines.specs.FileState.{State, IsLeft, after_append, after_cut}
 
 -- whether a crash leaves these bytes of a file in this state: only if files of its type act as the
 -- crash model says
 abbrev pub LeftNow : (acts : Type 0) → State → List ℕ → Type 0
 LeftNow acts s c = acts × IsLeft s c
-
--- whether the next read or write is at the end of the file
-abbrev pub IsAtEnd : (place : ℕ) → State → Type 0
-IsAtEnd place s = place ≡ length (seen_of s)
 
 -- whether a front of these bytes was appended: all, some or none
 abbrev pub HasFront : (bytes : List ℕ) (old new : State) → Type 0

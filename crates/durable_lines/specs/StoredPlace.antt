@@ -7,12 +7,11 @@
 --     CallsFolder     the calls on the folder within a call on the name
 use Rattle.std.specs.Prelude.{◌≡◌, ◌≤◌, ℕ, Bool, true, Option, None, Some, IfSome}
 use Rattle.std.specs.Prelude.{List, [], ◌∷◌, ◌++◌, length, take, ⊤}
-use Rattle.durable_lines.specs.Calls.{FileCall, Read, Append, Cut, Sync}
 use Rattle.durable_lines.specs.Calls.{PlaceCall, CreateDraft, RenameDraft, SyncRename}
 use Rattle.durable_lines.specs.CrashModel.{HasOneOutcome}
-use Rattle.durable_lines.specs.FileState.{State, seen_of}
-use Rattle.durable_lines.specs.RawFile.{LeftNow}
+use Rattle.durable_lines.specs.FileModel.{FileCall, Read, Append, Cut, Sync}
 use Rattle.durable_lines.specs.RawFolder.{FolderCall, SyncFolder, CreatesName, GivesName}
+use Rattle.durable_lines.specs.RawModel.{RawModel, raw_bytes, LeftOfRaw}
 use Rattle.durable_lines.specs.StoredFile.{StoredState}
 use Rattle.durable_lines.specs.declared.stored_place.StoredPlace.{StoredPlace}
 
@@ -25,20 +24,20 @@ abbrev pub with_file : {F S : Type 0} → StoredPlace F S → StoredState S → 
 with_file p given = record p { file = Some given }
 
 -- the bytes of the file of a place, if it has one
-abbrev pub seen_in : {R : Type 0} → (R → State) → Option (StoredState R) → List ℕ
-seen_in state (Some f) = seen_of (state f.raw)
-seen_in state None = []
+abbrev pub seen_in : {R : Type 0} → RawModel R → Option (StoredState R) → List ℕ
+seen_in model (Some f) = raw_bytes model f.raw
+seen_in model None = []
 
 -- whether a call on the file of a place that returns `Ok` does this to its bytes, if the files of
 -- the folder act as the crash model says
-abbrev pub ChangesFile : {R : Type 0} → (acts : Type 0) → (R → State) → FileCall
+abbrev pub ChangesFile : {R : Type 0} → RawModel R → FileCall
     → (old new : Option (StoredState R)) → Type 0
-ChangesFile acts state Read old new = ⊤
-ChangesFile acts state (Append bytes) old new = seen_in state new ≡ seen_in state old ++ bytes
-ChangesFile acts state (Cut len) old new =
-    len ≤ length (seen_in state old) → seen_in state new ≡ take len (seen_in state old)
-ChangesFile acts state Sync old new =
-    IfSome new (λ f. HasOneOutcome (seen_of (state f.raw)) (LeftNow acts (state f.raw)))
+ChangesFile model Read old new = ⊤
+ChangesFile model (Append bytes) old new = seen_in model new ≡ seen_in model old ++ bytes
+ChangesFile model (Cut len) old new =
+    len ≤ length (seen_in model old) → seen_in model new ≡ take len (seen_in model old)
+ChangesFile model Sync old new =
+    IfSome new (λ f. HasOneOutcome (raw_bytes model f.raw) (LeftOfRaw model f.raw))
 
 -- whether a call on the file of a place that returns `Ok` makes these calls on the folder: none,
 -- but for a sync after a rename, which syncs the folder. Until then it stays known that there was

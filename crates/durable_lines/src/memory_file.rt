@@ -139,27 +139,21 @@ fn replace(
 }
 
 impl DurableFile for MemoryFile {
-    ghost acts_as_file = { ⊤ };
-
-    ghost identity = { λ _. 0 };
-
-    ghost seen = { bytes_of };
-
-    ghost may_leave = { λ m c. IsLeft m.state c };
-
-    ghost moment = { moment_of };
-
-    ghost left_since = { LeftSince };
-
-    ghost stored = { λ _ _. ⊤ };
-
-    ghost has_failed = { HasFailed };
-
-    ghost overflows = { λ _ _. ⊥ };
-
-    ghost counts_now = { λ m t c le now. inl now };
-
-    ghost only_now = { λ m c left. only_present IsLeft m.past.items m.state c left };
+    ghost model = { record {
+      acts = ⊤;
+      identity = λ _. 0;
+      seen = bytes_of;
+      may_leave = λ m c. IsLeft m.state c;
+      moment = moment_of;
+      left_since = LeftSince;
+      stored = λ _ _. ⊤;
+      renews = λ _ _. ⊥;
+      has_failed = HasFailed;
+      overflows = λ _ _. ⊥;
+      also = λ _ _ _. ⊤;
+      counts_now = λ m t c le now. inl now;
+      only_now = λ m c left. only_present IsLeft m.past.items m.state c left;
+    } };
 
     fn read(&mut self, alloc: Global) -> Result<Vec<u8>, FileFault> {
         if self.has_failed {

@@ -203,27 +203,21 @@ fn change(
 }
 
 impl DurableFile for MemoryPlace {
-    ghost acts_as_file = { ⊤ };
-
-    ghost identity = { λ _. 0 };
-
-    ghost seen = { λ p. seen_of (name_of p) };
-
-    ghost may_leave = { λ p c. MayBeLeft p.state c };
-
-    ghost moment = { moment_of };
-
-    ghost left_since = { LeftSince };
-
-    ghost stored = { λ _ _. ⊤ };
-
-    ghost has_failed = { λ _. ⊥ };
-
-    ghost overflows = { λ _ _. ⊥ };
-
-    ghost counts_now = { λ p t c le now. inl now };
-
-    ghost only_now = { λ p c left. only_present MayBeLeft p.past.items p.state c left };
+    ghost model = { record {
+      acts = ⊤;
+      identity = λ _. 0;
+      seen = λ p. seen_of (name_of p);
+      may_leave = λ p c. MayBeLeft p.state c;
+      moment = moment_of;
+      left_since = LeftSince;
+      stored = λ _ _. ⊤;
+      renews = λ _ _. ⊥;
+      has_failed = λ _. ⊥;
+      overflows = λ _ _. ⊥;
+      also = λ _ _ _. ⊤;
+      counts_now = λ p t c le now. inl now;
+      only_now = λ p c left. only_present MayBeLeft p.past.items p.state c left;
+    } };
 
     fn read(&mut self, alloc: Global) -> Result<Vec<u8>, FileFault> {
         Ok(self.state.current.bytes(alloc)?)

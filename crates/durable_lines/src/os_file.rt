@@ -24,31 +24,21 @@ impl OsFile {
 }
 
 impl RawFile for OsFile {
-    ghost acts = { ⊥ };
-
-    ghost identity = { λ _. 0 };
-
-    ghost state = { λ _. synced_with [] };
-
-    ghost place = { λ _. 0 };
-
-    ghost moment = { λ _. 0 };
-
-    ghost left_since = { λ _ _ _. ⊥ };
-
-    ghost stored = { λ _ _. ⊥ };
-
-    ghost is_locked = { λ _. ⊤ };
-
-    ghost reads_disk = { λ _. ⊤ };
-
-    ghost has_failed = { λ _. ⊤ };
-
-    ghost is_within = { λ file. zero-le };
-
-    ghost counts_now = { λ file t c le now. now.0 };
-
-    ghost only_now = { λ file c left. absurd left };
+    ghost model = { record {
+      acts = ⊥;
+      identity = λ _. 0;
+      state = λ _. synced_with [];
+      place = λ _. 0;
+      moment = λ _. 0;
+      left_since = λ _ _ _. ⊥;
+      stored = λ _ _. ⊥;
+      is_locked = λ _. ⊤;
+      reads_disk = λ _. ⊤;
+      has_failed = λ _. ⊤;
+      is_within = λ file. zero-le;
+      counts_now = λ file t c le now. now.0;
+      only_now = λ file c left. absurd left;
+    } };
 
     fn try_lock(&mut self) -> Result<(), TryLockError> {
         self.file.try_lock()

@@ -1,7 +1,8 @@
 //! `Place`: a name in a folder whose file can be replaced as a whole.
-ghost use Rattle.std.specs.Prelude.{◌≡◌, ◌⊎◌, ◌↔◌, [], List, ℕ, IfOk, OnOk, IsErrOf, ⊤};
+ghost use Rattle.std.specs.Prelude.{◌≡◌, ◌⊎◌, [], List, ℕ, IfOk, OnOk, IsErrOf, ⊤};
 ghost use Rattle.durable_lines.specs.Calls.{PlaceCall, CreateDraft, RenameDraft, SyncRename};
-ghost use Rattle.durable_lines.specs.CrashModel.{Elapses, Narrows};
+ghost use Rattle.durable_lines.specs.Calls.{CallsFile};
+ghost use Rattle.durable_lines.specs.CrashModel.{Narrows};
 
 use crate::durable_file::DurableFile;
 use crate::fault::FileFault;
@@ -26,49 +27,38 @@ pub trait Place: DurableFile {
 
     /// Creates an empty draft. It replaces an earlier one.
     fn create_draft(&mut self) -> Result<Self::Draft, FileFault>
-        ensures empty { IfOk result (λ draft. Self.Draft.seen draft ≡ []) }
-        ensures unfailed { IfOk result (λ draft. ¬ Self.Draft.has_failed draft) }
-        ensures crash { Narrows (Self.may_leave self.old) (Self.may_leave self.new) }
-        ensures time { Elapses (Self.moment self.old) (Self.moment self.new)
-            (Self.left_since self.old) (Self.left_since self.new) (Self.may_leave self.new) }
+        ensures empty { IfOk result (λ draft. Self.Draft.model.seen draft ≡ []) }
+        ensures unfailed { IfOk result (λ draft. ¬ Self.Draft.model.has_failed draft) }
+        ensures crash { Narrows (Self.model.may_leave self.old) (Self.model.may_leave self.new) }
+        ensures call { CallsFile Self.model self.old self.new result }
         ensures also { OnOk result (also_calls CreateDraft self.old self.new) }
-        ensures not_too_long { ¬ IsErrOf result FileFault.TooLong }
-        ensures identity { Self.identity self.new ≡ Self.identity self.old }
-        ensures failed { IsErrOf result FileFault.Failed ↔ Self.has_failed self.new }
-        ensures remains_failed { Self.has_failed self.old → Self.has_failed self.new };
+        ensures not_too_long { ¬ IsErrOf result FileFault.TooLong };
 
     /// Gives the name to the draft, which must be the last one. Until the folder is synced a crash
     /// leaves the file that had the name, or the draft.
     fn rename(&mut self, draft: Self::Draft) -> Result<(), FileFault>
-        ensures seen { OnOk result (Self.seen self.new ≡ Self.Draft.seen draft) }
-        ensures renamed { OnOk result (Narrows (Self.Draft.may_leave draft) (named self.new)) }
+        ensures seen { OnOk result (Self.model.seen self.new ≡ Self.Draft.model.seen draft) }
+        ensures renamed { OnOk result
+            (Narrows (Self.Draft.model.may_leave draft) (named self.new)) }
         // A sync of the draft counts for the name.
         ensures stored { OnOk result ((bytes : List ℕ)
-            → Self.Draft.stored (Self.Draft.identity draft) bytes
-            → Self.stored (Self.identity self.new) bytes) }
-        ensures crash { (c : List ℕ) → Self.may_leave self.new c
-            → Self.may_leave self.old c ⊎ Self.Draft.may_leave draft c }
-        ensures time { Elapses (Self.moment self.old) (Self.moment self.new)
-            (Self.left_since self.old) (Self.left_since self.new) (Self.may_leave self.new) }
+            → Self.Draft.model.stored (Self.Draft.model.identity draft) bytes
+            → Self.model.stored (Self.model.identity self.new) bytes) }
+        ensures crash { (c : List ℕ) → Self.model.may_leave self.new c
+            → Self.model.may_leave self.old c ⊎ Self.Draft.model.may_leave draft c }
+        ensures call { CallsFile Self.model self.old self.new result }
         ensures also { OnOk result (also_calls RenameDraft self.old self.new) }
-        ensures not_too_long { ¬ IsErrOf result FileFault.TooLong }
-        ensures identity { Self.identity self.new ≡ Self.identity self.old }
-        ensures failed { IsErrOf result FileFault.Failed ↔ Self.has_failed self.new }
-        ensures remains_failed { Self.has_failed self.old → Self.has_failed self.new };
+        ensures not_too_long { ¬ IsErrOf result FileFault.TooLong };
 
     /// Waits until the rename is on the disk.
     fn sync_folder(&mut self) -> Result<(), FileFault>
-        ensures unchanged { OnOk result (Self.seen self.new ≡ Self.seen self.old) }
-        ensures durable { OnOk result (Narrows (named self.old) (Self.may_leave self.new)) }
-        ensures crash { Narrows (Self.may_leave self.old) (Self.may_leave self.new) }
-        ensures time { Elapses (Self.moment self.old) (Self.moment self.new)
-            (Self.left_since self.old) (Self.left_since self.new) (Self.may_leave self.new) }
+        ensures unchanged { OnOk result (Self.model.seen self.new ≡ Self.model.seen self.old) }
+        ensures durable { OnOk result (Narrows (named self.old) (Self.model.may_leave self.new)) }
+        ensures crash { Narrows (Self.model.may_leave self.old) (Self.model.may_leave self.new) }
+        ensures call { CallsFile Self.model self.old self.new result }
         ensures also { OnOk result (also_calls SyncRename self.old self.new) }
-        ensures not_too_long { ¬ IsErrOf result FileFault.TooLong }
-        ensures identity { Self.identity self.new ≡ Self.identity self.old }
-        ensures failed { IsErrOf result FileFault.Failed ↔ Self.has_failed self.new }
-        ensures remains_failed { Self.has_failed self.old → Self.has_failed self.new };
+        ensures not_too_long { ¬ IsErrOf result FileFault.TooLong };
 
     // Ghost law: if the name acts as the crash model says, so do its drafts.
-    ghost drafts_act: { Self.acts_as_file → Self.Draft.acts_as_file };
+    ghost drafts_act: { Self.model.acts → Self.Draft.model.acts };
 }

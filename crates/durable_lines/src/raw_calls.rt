@@ -1,11 +1,13 @@
 //! Reads a raw file to its end, and appends to it, both within a limit. Calls that a signal
 //! interrupts are retried, and short reads and writes are continued.
-ghost use Rattle.std.specs.Prelude.{◌≡◌, ◌≢◌, ◌+◌, ◌<◌, ◌≤◌, IfErr, IfOk, IsErrOf, OnErr, OnOk};
+ghost use Rattle.std.specs.Prelude.{◌≡◌, ◌≢◌, ◌+◌, ◌<◌, ◌≤◌, IfErr, IfOk, IsErr, IsErrOf, OnOk};
 ghost use Rattle.std.specs.Prelude.{length, take};
 ghost use Rattle.std.specs.IoError.{error_kind};
-ghost use Rattle.durable_lines.specs.CrashModel.{Elapses, Follows, Narrows, HasOneOutcome, TornCut};
-ghost use Rattle.durable_lines.specs.FileState.{seen_of, after_append};
-ghost use Rattle.durable_lines.specs.RawFile.{HasFront, IsAtEnd, LeftNow, ReadsPiece};
+ghost use Rattle.durable_lines.specs.CrashModel.{Follows, Narrows, HasOneOutcome, TornCut};
+ghost use Rattle.durable_lines.specs.FileState.{after_append};
+ghost use Rattle.durable_lines.specs.RawFile.{ReadsPiece};
+ghost use Rattle.durable_lines.specs.RawModel.{raw_bytes, AppendsFront, CallsRaw, IsAtEnd};
+ghost use Rattle.durable_lines.specs.RawModel.{LeftOfRaw};
 
 use crate::fault::FileFault;
 use crate::raw_file::RawFile;
@@ -31,15 +33,12 @@ fn fault_of(error: &io::Error) -> FileFault
 // Reads once, and retries a read that a signal interrupts.
 fn read_retrying<R: RawFile>(raw: &mut R, buffer: &mut [u8]) -> Result<usize, FileFault>
     ensures count { IfOk result (λ count. count ≤ length buffer.new) }
-    ensures read { IfOk result (λ count. R.acts → ReadsPiece (seen_of (R.state raw.old))
-        (R.place raw.old) (R.place raw.new) (length buffer.new) (take count buffer.new)) }
-    ensures state { R.state raw.new ≡ R.state raw.old }
-    ensures time { Elapses (R.moment raw.old) (R.moment raw.new) (R.left_since raw.old)
-        (R.left_since raw.new) (LeftNow R.acts (R.state raw.new)) }
-    ensures identity { R.identity raw.new ≡ R.identity raw.old }
+    ensures read { IfOk result (λ count. R.model.acts → ReadsPiece (raw_bytes R.model raw.old)
+        (R.model.place raw.old) (R.model.place raw.new) (length buffer.new)
+        (take count buffer.new)) }
+    ensures state { R.model.state raw.new ≡ R.model.state raw.old }
     ensures not_too_long { ¬ IsErrOf result FileFault.TooLong }
-    ensures failed { OnErr result (R.has_failed raw.new) }
-    ensures remains_failed { R.has_failed raw.old → R.has_failed raw.new }
+    ensures call { CallsRaw R.model raw.old raw.new (IsErr result) }
 {
     'tries: for _ in 0..u64::MAX {
         match raw.read(buffer) {
@@ -57,16 +56,12 @@ pub(crate) fn read_within<R: RawFile>(
     raw: &mut R,
     limit: usize,
 ) -> Result<Vec<u8>, FileFault>
-    ensures bytes { IfOk result (λ bytes. R.acts → bytes.items ≡ seen_of (R.state raw.old)) }
+    ensures bytes { IfOk result (λ bytes. R.model.acts → bytes.items ≡ raw_bytes R.model raw.old) }
     ensures within { IfOk result (λ bytes. length bytes.items ≤ limit) }
     ensures too_long { IsErrOf result FileFault.TooLong
-        → R.acts → limit < length (seen_of (R.state raw.old)) }
-    ensures state { R.state raw.new ≡ R.state raw.old }
-    ensures time { Elapses (R.moment raw.old) (R.moment raw.new) (R.left_since raw.old)
-        (R.left_since raw.new) (LeftNow R.acts (R.state raw.new)) }
-    ensures identity { R.identity raw.new ≡ R.identity raw.old }
-    ensures failed { IsErrOf result FileFault.Failed → R.has_failed raw.new }
-    ensures remains_failed { R.has_failed raw.old → R.has_failed raw.new }
+        → R.model.acts → limit < length (raw_bytes R.model raw.old) }
+    ensures state { R.model.state raw.new ≡ R.model.state raw.old }
+    ensures call { CallsRaw R.model raw.old raw.new (IsErrOf result FileFault.Failed) }
 {
     let mut bytes = Vec::new(alloc);
     if raw.seek_start().is_err() {
@@ -89,19 +84,15 @@ pub(crate) fn read_within<R: RawFile>(
 // Writes once at the end of a file, and retries a write that a signal interrupts. A write that
 // writes nothing fails.
 fn write_retrying<R: RawFile>(raw: &mut R, bytes: &[u8]) -> Result<usize, FileFault>
-    requires at_end { R.acts → IsAtEnd (R.place raw.old) (R.state raw.old) }
+    requires at_end { R.model.acts → IsAtEnd R.model raw.old }
     requires non_empty { 0 < length bytes.now }
     ensures count { IfOk result (λ count. (0 < count) × (count ≤ length bytes.now)) }
-    ensures written { IfOk result (λ count. R.acts
-        → R.state raw.new ≡ after_append (take count bytes.now) (R.state raw.old)) }
-    ensures at_end { OnOk result (R.acts → IsAtEnd (R.place raw.new) (R.state raw.new)) }
-    ensures front { R.acts → HasFront bytes.now (R.state raw.old) (R.state raw.new) }
-    ensures time { Elapses (R.moment raw.old) (R.moment raw.new) (R.left_since raw.old)
-        (R.left_since raw.new) (LeftNow R.acts (R.state raw.new)) }
-    ensures identity { R.identity raw.new ≡ R.identity raw.old }
+    ensures written { IfOk result (λ count. R.model.acts
+        → R.model.state raw.new ≡ after_append (take count bytes.now) (R.model.state raw.old)) }
+    ensures at_end { OnOk result (R.model.acts → IsAtEnd R.model raw.new) }
+    ensures front { AppendsFront R.model bytes.now raw.old raw.new }
     ensures err { IfErr result (λ fault. fault ≡ FileFault.Failed) }
-    ensures failed { OnErr result (R.has_failed raw.new) }
-    ensures remains_failed { R.has_failed raw.old → R.has_failed raw.new }
+    ensures call { CallsRaw R.model raw.old raw.new (IsErr result) }
 {
     'tries: for _ in 0..u64::MAX {
         match raw.write(bytes) {
@@ -116,16 +107,12 @@ fn write_retrying<R: RawFile>(raw: &mut R, bytes: &[u8]) -> Result<usize, FileFa
 
 // Writes all bytes at the end of a file. After an error a front of them may have been written.
 fn write_all<R: RawFile>(raw: &mut R, bytes: &[u8]) -> Result<(), FileFault>
-    requires { R.acts → IsAtEnd (R.place raw.old) (R.state raw.old) }
+    requires { R.model.acts → IsAtEnd R.model raw.old }
     ensures written { OnOk result
-        (R.acts → R.state raw.new ≡ after_append bytes.now (R.state raw.old)) }
-    ensures front { R.acts → HasFront bytes.now (R.state raw.old) (R.state raw.new) }
-    ensures time { Elapses (R.moment raw.old) (R.moment raw.new) (R.left_since raw.old)
-        (R.left_since raw.new) (LeftNow R.acts (R.state raw.new)) }
-    ensures identity { R.identity raw.new ≡ R.identity raw.old }
+        (R.model.acts → R.model.state raw.new ≡ after_append bytes.now (R.model.state raw.old)) }
+    ensures front { AppendsFront R.model bytes.now raw.old raw.new }
     ensures err { IfErr result (λ fault. fault ≡ FileFault.Failed) }
-    ensures failed { OnErr result (R.has_failed raw.new) }
-    ensures remains_failed { R.has_failed raw.old → R.has_failed raw.new }
+    ensures call { CallsRaw R.model raw.old raw.new (IsErr result) }
 {
     let mut rest = bytes;
     'writes: for _ in 0..bytes.len() {
@@ -146,17 +133,13 @@ pub(crate) fn append_within<R: RawFile>(
     bytes: &[u8],
 ) -> Result<(), FileFault>
     ensures written { OnOk result
-        (R.acts → R.state raw.new ≡ after_append bytes.now (R.state raw.old)) }
+        (R.model.acts → R.model.state raw.new ≡ after_append bytes.now (R.model.state raw.old)) }
     ensures within { OnOk result
-        (R.acts → length (seen_of (R.state raw.old)) + length bytes.now ≤ limit) }
-    ensures front { R.acts → HasFront bytes.now (R.state raw.old) (R.state raw.new) }
+        (R.model.acts → length (raw_bytes R.model raw.old) + length bytes.now ≤ limit) }
+    ensures front { AppendsFront R.model bytes.now raw.old raw.new }
     ensures too_long { IsErrOf result FileFault.TooLong
-        → R.acts → limit < length (seen_of (R.state raw.old)) + length bytes.now }
-    ensures time { Elapses (R.moment raw.old) (R.moment raw.new) (R.left_since raw.old)
-        (R.left_since raw.new) (LeftNow R.acts (R.state raw.new)) }
-    ensures identity { R.identity raw.new ≡ R.identity raw.old }
-    ensures failed { IsErrOf result FileFault.Failed → R.has_failed raw.new }
-    ensures remains_failed { R.has_failed raw.old → R.has_failed raw.new }
+        → R.model.acts → limit < length (raw_bytes R.model raw.old) + length bytes.now }
+    ensures call { CallsRaw R.model raw.old raw.new (IsErrOf result FileFault.Failed) }
 {
     let Ok(end) = raw.seek_end() else {
         return Err(FileFault::Failed);
@@ -172,17 +155,12 @@ pub(crate) fn append_within<R: RawFile>(
 
 // Cuts a file to a length. Nothing is said of a length that is greater than that of the file.
 pub(crate) fn cut_to<R: RawFile>(raw: &mut R, len: usize) -> Result<(), FileFault>
-    ensures cut { OnOk result (R.acts → len ≤ length (seen_of (R.state raw.old))
-        → seen_of (R.state raw.new) ≡ take len (seen_of (R.state raw.old))) }
-    ensures crash { (R.acts → len ≤ length (seen_of (R.state raw.old)))
-        → Follows (TornCut len) (LeftNow R.acts (R.state raw.old))
-        (LeftNow R.acts (R.state raw.new)) }
-    ensures time { Elapses (R.moment raw.old) (R.moment raw.new) (R.left_since raw.old)
-        (R.left_since raw.new) (LeftNow R.acts (R.state raw.new)) }
-    ensures identity { R.identity raw.new ≡ R.identity raw.old }
+    ensures cut { OnOk result (R.model.acts → len ≤ length (raw_bytes R.model raw.old)
+        → raw_bytes R.model raw.new ≡ take len (raw_bytes R.model raw.old)) }
+    ensures crash { (R.model.acts → len ≤ length (raw_bytes R.model raw.old))
+        → Follows (TornCut len) (LeftOfRaw R.model raw.old) (LeftOfRaw R.model raw.new) }
     ensures err { IfErr result (λ fault. fault ≡ FileFault.Failed) }
-    ensures failed { OnErr result (R.has_failed raw.new) }
-    ensures remains_failed { R.has_failed raw.old → R.has_failed raw.new }
+    ensures call { CallsRaw R.model raw.old raw.new (IsErr result) }
 {
     match raw.set_len(len) {
         Ok(()) => Ok(()),
@@ -192,19 +170,14 @@ pub(crate) fn cut_to<R: RawFile>(raw: &mut R, len: usize) -> Result<(), FileFaul
 
 // Waits until the bytes of a file are on the disk.
 pub(crate) fn sync_bytes<R: RawFile>(raw: &mut R) -> Result<(), FileFault>
-    ensures seen { OnOk result (seen_of (R.state raw.new) ≡ seen_of (R.state raw.old)) }
-    ensures durable { OnOk result (HasOneOutcome (seen_of (R.state raw.old))
-        (LeftNow R.acts (R.state raw.new))) }
-    ensures stored { OnOk result (R.acts
-        → R.stored (R.identity raw.new) (seen_of (R.state raw.old))) }
-    ensures crash { Narrows (LeftNow R.acts (R.state raw.old))
-        (LeftNow R.acts (R.state raw.new)) }
-    ensures time { Elapses (R.moment raw.old) (R.moment raw.new) (R.left_since raw.old)
-        (R.left_since raw.new) (LeftNow R.acts (R.state raw.new)) }
-    ensures identity { R.identity raw.new ≡ R.identity raw.old }
+    ensures seen { OnOk result (raw_bytes R.model raw.new ≡ raw_bytes R.model raw.old) }
+    ensures durable { OnOk result (HasOneOutcome (raw_bytes R.model raw.old)
+        (LeftOfRaw R.model raw.new)) }
+    ensures stored { OnOk result (R.model.acts
+        → R.model.stored (R.model.identity raw.new) (raw_bytes R.model raw.old)) }
+    ensures crash { Narrows (LeftOfRaw R.model raw.old) (LeftOfRaw R.model raw.new) }
     ensures err { IfErr result (λ fault. fault ≡ FileFault.Failed) }
-    ensures failed { OnErr result (R.has_failed raw.new) }
-    ensures remains_failed { R.has_failed raw.old → R.has_failed raw.new }
+    ensures call { CallsRaw R.model raw.old raw.new (IsErr result) }
 {
     match raw.sync_data() {
         Ok(()) => Ok(()),

@@ -1,8 +1,8 @@
 //! `RawFolder`: a folder, with one method for each call of the operating system on its names.
 ghost use Rattle.std.specs.Prelude.{◌≡◌, ◌∷◌, ◌++◌, [], List, IfOk, OnErr, OnOk};
-ghost use Rattle.durable_lines.specs.FileState.{seen_of};
 ghost use Rattle.durable_lines.specs.RawFolder.{FolderCall, Create, Link, Remove, Rename};
 ghost use Rattle.durable_lines.specs.RawFolder.{SyncFolder};
+ghost use Rattle.durable_lines.specs.RawModel.{raw_bytes};
 
 use crate::raw_file::RawFile;
 use std::io;
@@ -24,7 +24,7 @@ pub trait RawFolder: Drop {
     /// Creates an empty file of a name that has none, with these permissions whatever the mask of
     /// the process, and opens it for reading and writing: one open, and one fchmod.
     fn create_new(&mut self, name: &str, mode: u32) -> io::Result<Self::File>
-        ensures empty { IfOk result (λ file. seen_of (Self.File.state file) ≡ []) }
+        ensures empty { IfOk result (λ file. raw_bytes Self.File.model file ≡ []) }
         ensures called { OnOk result (acts
             → calls self.new ≡ calls self.old ++ Create name.now ∷ []) };
 

@@ -1,7 +1,8 @@
 //! `recover`: reads the lines that a crash has left in a durable file, and repairs the file's end.
-ghost use Rattle.std.specs.Prelude.{◌≡◌, ◌+◌, ◌⊎◌, IfOk, OnOk, IsErrOf, length};
+ghost use Rattle.std.specs.Prelude.{◌≡◌, ◌+◌, ◌⊎◌, IfOk, OnOk, length};
+ghost use Rattle.durable_lines.specs.Calls.{IsSameFile};
 ghost use Rattle.durable_lines.specs.CrashModel.{LeavesOnly};
-ghost use Rattle.durable_lines.specs.Lines.{lines_in, text_of, IsSettled};
+ghost use Rattle.durable_lines.specs.Lines.{lines_in, text_of, IsReady};
 
 use crate::durable_file::DurableFile;
 use crate::fault::FileFault;
@@ -24,21 +25,18 @@ pub struct Recovered {
 /// The file is synced before it is read: bytes that a killed process has left may be in memory
 /// only.
 pub fn recover<F: DurableFile>(alloc: Global, file: &mut F) -> Result<Recovered, FileFault>
-    ensures text { IfOk result (λ found. F.acts_as_file
-        → found.text.items ≡ text_of (lines_in (F.seen file.old))) }
-    ensures cut { IfOk result (λ found. F.acts_as_file
-        → length found.text.items + found.cut ≡ length (F.seen file.old)) }
-    ensures seen { IfOk result (λ found. F.acts_as_file → F.seen file.new ≡ found.text.items) }
-    ensures same { OnOk result (F.acts_as_file
-        → lines_in (F.seen file.new) ≡ lines_in (F.seen file.old)) }
-    ensures settled { OnOk result (F.acts_as_file
-        → IsSettled F.seen F.may_leave F.identity F.stored file.new) }
+    ensures text { IfOk result (λ found. F.model.acts
+        → found.text.items ≡ text_of (lines_in (F.model.seen file.old))) }
+    ensures cut { IfOk result (λ found. F.model.acts
+        → length found.text.items + found.cut ≡ length (F.model.seen file.old)) }
+    ensures seen { IfOk result (λ found. F.model.acts → F.model.seen file.new ≡ found.text.items) }
+    ensures same { OnOk result (F.model.acts
+        → lines_in (F.model.seen file.new) ≡ lines_in (F.model.seen file.old)) }
+    ensures settled { OnOk result (IsReady F.model file.new) }
     // A crash at any moment of the call leaves the same lines, or what it could have left before.
-    ensures any_moment { F.acts_as_file → LeavesOnly F.moment F.left_since file.old file.new
-        (λ c. F.may_leave file.old c ⊎ (lines_in c ≡ lines_in (F.seen file.old))) }
-    ensures identity { F.identity file.new ≡ F.identity file.old }
-    ensures failed { IsErrOf result FileFault.Failed → F.has_failed file.new }
-    ensures remains_failed { F.has_failed file.old → F.has_failed file.new }
+    ensures any_moment { F.model.acts → LeavesOnly F.model file.old file.new
+        (λ c. F.model.may_leave file.old c ⊎ (lines_in c ≡ lines_in (F.model.seen file.old))) }
+    ensures same_file { IsSameFile F.model file.old file.new result }
 {
     file.sync()?; // bytes that a killed process wrote may be in memory only
     let mut text = file.read(alloc)?;

@@ -1,9 +1,9 @@
 //! `StoredFile`: a raw file, limited in length, as a durable file.
-ghost use Rattle.std.specs.Prelude.{◌≡◌, ◌↔◌, ◌+◌, ◌<◌, ◌≤◌, [], IfOk, IsErrOf, OnOk, length, take};
-ghost use Rattle.durable_lines.specs.CrashModel.{Elapses, Follows, TornCut};
-ghost use Rattle.durable_lines.specs.FileState.{seen_of};
-ghost use Rattle.durable_lines.specs.RawFile.{LeftNow};
-ghost use Rattle.durable_lines.specs.StoredFile.{limit_of, HasFailed, StaysWithin};
+ghost use Rattle.std.specs.Prelude.{◌≡◌, ◌≤◌, [], IfOk, IsErrOf, OnOk, length, take};
+ghost use Rattle.durable_lines.specs.Calls.{CallsFile};
+ghost use Rattle.durable_lines.specs.CrashModel.{Follows, TornCut};
+ghost use Rattle.durable_lines.specs.RawModel.{raw_bytes, LeftOfRaw};
+ghost use Rattle.durable_lines.specs.StoredFile.{limit_of, stored_model, HasFailed};
 
 use crate::durable_file::DurableFile;
 use crate::fault::{FileFault, LockFault, record_failure};
@@ -36,7 +36,7 @@ impl<R: RawFile> Model for StoredFile<R> {
     ghost view = { λ f. record { raw = f.raw; limit = f.limit; has_failed = f.has_failed } };
 
     // (a file fails only if a call on the raw file has)
-    ghost invariant = { λ f. f.has_failed ≡ true → R.has_failed f.raw };
+    ghost invariant = { λ f. f.has_failed ≡ true → R.model.has_failed f.raw };
 }
 
 impl<R: RawFile> StoredFile<R> {
@@ -45,10 +45,10 @@ impl<R: RawFile> StoredFile<R> {
     /// longer file is not read, and an append that would exceed it is refused. Errors: `Held` if
     /// another process has locked the file, `Failed` if it cannot be locked or synced.
     pub fn try_lock_raw(raw: R, limit: usize) -> Result<StoredFile<R>, LockFault>
-        ensures locked { IfOk result (λ stored. R.is_locked stored.raw) }
-        ensures on_disk { IfOk result (λ stored. R.reads_disk stored.raw) }
-        ensures empty { IfOk result (λ stored. seen_of (R.state raw) ≡ []
-            → seen_of (R.state stored.raw) ≡ []) }
+        ensures locked { IfOk result (λ stored. R.model.is_locked stored.raw) }
+        ensures on_disk { IfOk result (λ stored. R.model.reads_disk stored.raw) }
+        ensures empty { IfOk result (λ stored. raw_bytes R.model raw ≡ []
+            → raw_bytes R.model stored.raw ≡ []) }
         ensures limit { IfOk result (λ stored. limit_of stored ≡ limit) }
         ensures unfailed { IfOk result (λ stored. ¬ HasFailed stored) }
     {
@@ -72,19 +72,15 @@ impl<R: RawFile> StoredFile<R> {
 impl<R: RawFile> StoredFile<R> {
     // Cuts the file to a length. Nothing is said of a length that is greater than that of the file.
     pub(crate) fn cut_to(&mut self, len: usize) -> Result<(), FileFault>
-        ensures cut { OnOk result (R.acts → len ≤ length (seen_of (R.state self.old.raw))
-            → seen_of (R.state self.new.raw) ≡ take len (seen_of (R.state self.old.raw))) }
-        ensures crash { (R.acts → len ≤ length (seen_of (R.state self.old.raw)))
-            → Follows (TornCut len) (LeftNow R.acts (R.state self.old.raw))
-            (LeftNow R.acts (R.state self.new.raw)) }
-        ensures time { Elapses (R.moment self.old.raw) (R.moment self.new.raw)
-            (R.left_since self.old.raw) (R.left_since self.new.raw)
-            (LeftNow R.acts (R.state self.new.raw)) }
+        ensures cut { OnOk result (R.model.acts
+            → len ≤ length (raw_bytes R.model self.old.raw)
+            → raw_bytes R.model self.new.raw ≡ take len (raw_bytes R.model self.old.raw)) }
+        ensures crash { (R.model.acts → len ≤ length (raw_bytes R.model self.old.raw))
+            → Follows (TornCut len) (LeftOfRaw R.model self.old.raw)
+            (LeftOfRaw R.model self.new.raw) }
+        ensures call { CallsFile (stored_model R.model) self.old self.new result }
         ensures limit { limit_of self.new ≡ limit_of self.old }
         ensures not_too_long { ¬ IsErrOf result FileFault.TooLong }
-        ensures identity { R.identity self.new.raw ≡ R.identity self.old.raw }
-        ensures failed { IsErrOf result FileFault.Failed ↔ HasFailed self.new }
-        ensures remains_failed { HasFailed self.old → HasFailed self.new }
     {
         if self.has_failed {
             return Err(FileFault::Failed);
@@ -106,31 +102,7 @@ impl StoredFile<OsFile> {
 }
 
 impl<R: RawFile> DurableFile for StoredFile<R> {
-    ghost acts_as_file = { R.acts };
-
-    ghost identity = { λ f. R.identity f.raw };
-
-    ghost seen = { λ f. seen_of (R.state f.raw) };
-
-    ghost may_leave = { λ f c. LeftNow R.acts (R.state f.raw) c };
-
-    ghost moment = { λ f. R.moment f.raw };
-
-    ghost left_since = { λ f t c. R.left_since f.raw t c };
-
-    ghost stored = { R.stored };
-
-    ghost has_failed = { HasFailed };
-
-    ghost overflows = { λ f bytes.
-        R.acts → limit_of f < length (seen_of (R.state f.raw)) + length bytes };
-
-    ghost also = { λ call old new. (limit_of new ≡ limit_of old)
-        × (R.acts → StaysWithin (limit_of old) call (seen_of (R.state old.raw))) };
-
-    ghost counts_now = { λ f t c le now. R.counts_now f.raw t c le now };
-
-    ghost only_now = { λ f c left. R.only_now f.raw c left };
+    ghost model = { stored_model R.model };
 
     fn read(&mut self, alloc: Global) -> Result<Vec<u8>, FileFault> {
         if self.has_failed {

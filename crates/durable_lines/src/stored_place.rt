@@ -1,10 +1,9 @@
 //! `StoredPlace`: a name in a folder.
 ghost use Rattle.std.specs.Prelude.{◌≡◌, ◌≤◌, ◌∷◌, ◌++◌, [], ℕ, true, IfOk, IfSome, IsErrOf, OnErr};
-ghost use Rattle.std.specs.Prelude.{OnOk, length, string_bytes, take};
+ghost use Rattle.std.specs.Prelude.{OnOk, length, string_bytes, take, ⊤};
 ghost use Rattle.durable_lines.specs.CrashModel.{HasOneOutcome};
-ghost use Rattle.durable_lines.specs.FileState.{seen_of};
-ghost use Rattle.durable_lines.specs.RawFile.{LeftNow};
 ghost use Rattle.durable_lines.specs.RawFolder.{CreatesName, GivesName, LeavesName, SyncFolder};
+ghost use Rattle.durable_lines.specs.RawModel.{raw_bytes, LeftOfRaw};
 ghost use Rattle.durable_lines.specs.StoredFile.{HasFailed as FileHasFailed};
 ghost use Rattle.durable_lines.specs.StoredPlace.{seen_in, with_file, CallsFolder, ChangesFile};
 ghost use Rattle.durable_lines.specs.StoredPlace.{HasFailed, SyncsFolder};
@@ -94,8 +93,8 @@ fn open_draft<F: RawFolder>(
 ) -> Result<StoredFile<F::File>, FileFault>
     ensures created { OnOk result (F.acts
         → CreatesName path.now (F.calls folder.old) (F.calls folder.new)) }
-    ensures empty { IfOk result (λ draft. seen_of (F.File.state draft.raw) ≡ []) }
-    ensures locked { IfOk result (λ draft. F.File.is_locked draft.raw) }
+    ensures empty { IfOk result (λ draft. raw_bytes F.File.model draft.raw ≡ []) }
+    ensures locked { IfOk result (λ draft. F.File.model.is_locked draft.raw) }
     ensures unfailed { IfOk result (λ draft. ¬ FileHasFailed draft) }
     ensures not_too_long { ¬ IsErrOf result FileFault.TooLong }
 {
@@ -124,9 +123,8 @@ fn read_file<R: RawFile>(
     alloc: Global,
     file: &mut Option<StoredFile<R>>,
 ) -> Result<Vec<u8>, FileFault>
-    ensures bytes { IfOk result (λ bytes. R.acts → bytes.items ≡ seen_in R.state file.old) }
-    ensures unchanged { OnOk result (seen_in R.state file.new ≡ seen_in R.state file.old) }
-    ensures unread { OnErr result (seen_in R.state file.new ≡ seen_in R.state file.old) }
+    ensures bytes { IfOk result (λ bytes. R.model.acts → bytes.items ≡ seen_in R.model file.old) }
+    ensures unchanged { seen_in R.model file.new ≡ seen_in R.model file.old }
 {
     match file {
         Some(file) => file.read(alloc),
@@ -139,8 +137,8 @@ fn append_to_file<R: RawFile>(
     file: &mut Option<StoredFile<R>>,
     bytes: &[u8],
 ) -> Result<(), FileFault>
-    ensures { OnOk result (R.acts
-        → seen_in R.state file.new ≡ seen_in R.state file.old ++ bytes.now) }
+    ensures { OnOk result (R.model.acts
+        → seen_in R.model file.new ≡ seen_in R.model file.old ++ bytes.now) }
 {
     match file {
         Some(file) => file.append(bytes),
@@ -150,8 +148,8 @@ fn append_to_file<R: RawFile>(
 
 // Cuts the file of a place to a length, or returns `Failed` if there is none.
 fn cut_file<R: RawFile>(file: &mut Option<StoredFile<R>>, len: usize) -> Result<(), FileFault>
-    ensures cut { OnOk result (R.acts → len ≤ length (seen_in R.state file.old)
-        → seen_in R.state file.new ≡ take len (seen_in R.state file.old)) }
+    ensures cut { OnOk result (R.model.acts → len ≤ length (seen_in R.model file.old)
+        → seen_in R.model file.new ≡ take len (seen_in R.model file.old)) }
     ensures not_too_long { ¬ IsErrOf result FileFault.TooLong }
 {
     match file {
@@ -167,9 +165,9 @@ fn sync_both<F: RawFolder>(
     is_renamed: bool,
 ) -> Result<(), FileFault>
     ensures unchanged { OnOk result
-        (seen_in F.File.state file.new ≡ seen_in F.File.state file.old) }
-    ensures file { OnOk result (IfSome file.new (λ f. HasOneOutcome (seen_of (F.File.state f.raw))
-        (LeftNow F.File.acts (F.File.state f.raw)))) }
+        (seen_in F.File.model file.new ≡ seen_in F.File.model file.old) }
+    ensures file { OnOk result (IfSome file.new
+        (λ f. HasOneOutcome (raw_bytes F.File.model f.raw) (LeftOfRaw F.File.model f.raw))) }
     ensures folder { OnOk result (F.acts → is_renamed ≡ true
         → F.calls folder.new ≡ F.calls folder.old ++ SyncFolder ∷ []) }
     ensures not_too_long { ¬ IsErrOf result FileFault.TooLong }
@@ -185,31 +183,25 @@ fn sync_both<F: RawFolder>(
 }
 
 impl<F: RawFolder> DurableFile for StoredPlace<F> {
-    ghost acts_as_file = { ⊥ };
-
-    ghost identity = { λ _. 0 };
-
-    ghost seen = { λ place. seen_in F.File.state place.file };
-
-    ghost may_leave = { λ _ _. ⊥ };
-
-    ghost moment = { λ _. 0 };
-
-    ghost left_since = { λ _ _ _. ⊥ };
-
-    // (of any file that has had the name)
-    ghost stored = { λ _ bytes. (file : ℕ) × F.File.stored file bytes };
-
-    ghost has_failed = { HasFailed };
-
-    ghost also = { λ call old new.
-        (F.File.acts → ChangesFile F.File.acts F.File.state call old.file new.file)
-        × (F.acts → SyncsFolder call old.is_renamed new.is_renamed (F.calls old.folder)
-        (F.calls new.folder)) };
-
-    ghost counts_now = { λ place t c le now. now };
-
-    ghost only_now = { λ place c left. left };
+    // (what is `stored` is so of any file that has had the name)
+    ghost model = { record {
+      acts = ⊥;
+      identity = λ _. 0;
+      seen = λ place. seen_in F.File.model place.file;
+      may_leave = λ _ _. ⊥;
+      moment = λ _. 0;
+      left_since = λ _ _ _. ⊥;
+      stored = λ _ bytes. (file : ℕ) × F.File.model.stored file bytes;
+      renews = λ _ _. ⊥;
+      has_failed = HasFailed;
+      overflows = λ _ _. ⊤;
+      also = λ call old new.
+          (F.File.model.acts → ChangesFile F.File.model call old.file new.file)
+          × (F.acts → SyncsFolder call old.is_renamed new.is_renamed (F.calls old.folder)
+          (F.calls new.folder));
+      counts_now = λ place t c le now. now;
+      only_now = λ place c left. left;
+    } };
 
     #[tactic(auto, using(crate::proofs::PastLemmas::elapses_unclaimed))]
     fn read(&mut self, alloc: Global) -> Result<Vec<u8>, FileFault> {
