@@ -38,5 +38,3 @@ module _ {F : Type 0} (model : FileModel F) (old : F) (text : List ℕ)
   after_sync appended synced time crash sync_time narrows =
       then_call model old appended synced FrontLines (after_append appended time crash) sync_time
       (λ c now. append_leaves appended crash c (narrows c now))
-
-pub ruleset appends = (after_append, after_sync)

@@ -1,16 +1,8 @@
 -- One more state joins those that a file or a place in memory has had.
 use Rattle.std.proofs.Common.{◌≡◌, ◌⊎◌, inl, inr, ⊎_elim, ℕ, zero, suc, ◌≤◌, List, [], ◌∷◌, ◌++◌}
 use Rattle.std.proofs.Common.{length, drop, refl, sym, subst, arith, length-append}
-use Rattle.durable_lines.specs.CrashModel.{Elapses}
-use Rattle.durable_lines.specs.Moments.{AnyLeft, LeftIn}
-
--- nothing is claimed of what a crash of a stored file leaves
-pub elapses_unclaimed : Elapses 0 0 (λ t c. ⊥) (λ t c. ⊥) (λ c. ⊥)
-elapses_unclaimed = record {
-  later = omega arith;
-  nothing_else = λ t c le since. absurd since;
-  keeps = λ t c le since. since;
-}
+use Rattle.durable_lines.specs.Moments.{AnyLeft, ElapsesIn, LeftIn}
+use Rattle.durable_lines.proofs.Moments.{elapses_still}
 
 module _ {S : Type 0} (left : S → List ℕ → Type 0) where
   keeps : (past : List S) (s : S) (c : List ℕ) → AnyLeft left past c
@@ -37,9 +29,7 @@ module _ {S : Type 0} (left : S → List ℕ → Type 0) where
   drop_push (suc t) [] s le = absurd (omega (arith, le))
   drop_push (suc t) (p ∷ past) s le = drop_push t past s (omega (arith, le))
 
-  elapses_push : (past : List S) (old new : S)
-      → Elapses (length past) (length (past ++ old ∷ [])) (LeftIn left past old)
-      (LeftIn left (past ++ old ∷ []) new) (left new)
+  elapses_push : (past : List S) (old new : S) → ElapsesIn left past old (past ++ old ∷ []) new
   elapses_push past old new = record {
     later = omega (arith, length-append past (old ∷ []));
     nothing_else = λ t c le since. ⊎_elim (λ now. inr now)
@@ -52,27 +42,15 @@ module _ {S : Type 0} (left : S → List ℕ → Type 0) where
 
   -- a change adds one state to the past
   pub elapses_to : (past later : List S) (old new : S) → later ≡ past ++ old ∷ []
-      → Elapses (length past) (length later) (LeftIn left past old) (LeftIn left later new)
-      (left new)
+      → ElapsesIn left past old later new
   elapses_to past later old new same =
-      subst (λ l. Elapses (length past) (length l) (LeftIn left past old) (LeftIn left l new)
-      (left new)) (sym same) (elapses_push past old new)
-
-  -- nothing happens
-  pub elapses_still : (past : List S) (state : S) → Elapses (length past) (length past)
-      (LeftIn left past state) (LeftIn left past state) (left state)
-  elapses_still past state = record {
-    later = omega arith;
-    nothing_else = λ t c le since. inl since;
-    keeps = λ t c le since. since;
-  }
+      subst (λ l. ElapsesIn left past old l new) (sym same) (elapses_push past old new)
 
   -- nothing changes
-  pub elapses_same : (past later : List S) (old new : S) → later ≡ past → new ≡ old
-      → Elapses (length past) (length later) (LeftIn left past old) (LeftIn left later new)
-      (left new)
-  elapses_same past later old new same is = subst
-      (λ l. Elapses (length past) (length l) (LeftIn left past old) (LeftIn left l new) (left new))
-      (sym same)
-      (subst (λ s. Elapses (length past) (length past) (LeftIn left past old) (LeftIn left past s)
-      (left s)) (sym is) (elapses_still past old))
+  pub elapses_same : (past later : List S) (state : S) → later ≡ past
+      → ElapsesIn left past state later state
+  elapses_same past later state same =
+      subst (λ l. ElapsesIn left past state l state) (sym same)
+      (elapses_still (length past) (LeftIn left past state) (left state))
+
+pub ruleset changes = (elapses_to, elapses_same)

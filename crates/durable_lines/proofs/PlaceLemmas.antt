@@ -1,63 +1,136 @@
--- What a crash leaves under a name in memory after an append, a cut and a sync.
-use Rattle.std.proofs.Common.{◌⊎◌, inl, inr, ℕ, List, [], None, Some, sym, append-nil}
+-- What a crash leaves under a name in memory after an append, a cut, a rename and a sync.
+use Rattle.std.proofs.Common.{◌≡◌, ◌⊎◌, inl, inr, ℕ, ◌≤◌, List, [], None, Some, length, take}
+use Rattle.std.proofs.Common.{sym, ap, subst, ◌∙◌}
 use Rattle.durable_lines.specs.CrashModel.{Follows, Narrows, HasOneOutcome, TornAppend, TornCut}
 use Rattle.durable_lines.specs.FileState.{State, seen_of, synced_with, after_append, after_cut}
 use Rattle.durable_lines.specs.FileState.{IsLeft}
 use Rattle.durable_lines.specs.MemoryPlace.{MayBeLeft}
 use Rattle.durable_lines.specs.declared.memory_place.PlaceState.{PlaceState}
+use Rattle.durable_lines.proofs.Moments.{elapses_still}
 use Rattle.durable_lines.proofs.StateLemmas.{append_follows, cut_follows, only_synced}
+use Rattle.durable_lines.proofs.StateLemmas.{same_appends, same_cuts, seen_of-after_cut}
 use Rattle.durable_lines.proofs.StateLemmas.{sync_narrows, uncut}
 
--- nothing is appended
-pub same_appends : (bytes : List ℕ) (may_leave : List ℕ → Type 0)
-    → Follows (TornAppend bytes) may_leave may_leave
-same_appends bytes may_leave c left = (c, left, ([], tt, sym (append-nil c)))
-
--- nothing is cut
-pub same_cuts : (len : ℕ) (may_leave : List ℕ → Type 0)
-    → Follows (TornCut len) may_leave may_leave
-same_cuts len may_leave c left = (c, left, uncut len c)
-
-pub append_follows_in : (bytes : List ℕ) (s : PlaceState)
-    → Follows (TornAppend bytes) (MayBeLeft s)
-    (MayBeLeft (record { current = after_append bytes s.current; previous = s.previous }))
-append_follows_in bytes s c (inl left) =
-    let from = append_follows bytes s.current c left in (from.0, inl from.1, from.2)
-append_follows_in bytes s c (inr was) = (c, inr was, ([], tt, sym (append-nil c)))
-
-pub cut_follows_in : (len : ℕ) (s : PlaceState)
-    → Follows (TornCut len) (MayBeLeft s)
-    (MayBeLeft (record { current = after_cut len s.current; previous = s.previous }))
-cut_follows_in len s c (inl left) =
-    let from = cut_follows len s.current c left in (from.0, inl from.1, from.2)
-cut_follows_in len s c (inr was) = (c, inr was, uncut len c)
-
-pub sync_narrows_in : (s : PlaceState)
-    → Narrows (MayBeLeft s)
-    (MayBeLeft (record { current = synced_with (seen_of s.current); previous = None }))
-sync_narrows_in s c (inl left) = inl (sync_narrows s.current c left)
-sync_narrows_in s c (inr none) = absurd none
-
-pub only_synced_in : (bytes : List ℕ)
-    → HasOneOutcome bytes (MayBeLeft (record { current = synced_with bytes; previous = None }))
-only_synced_in bytes c (inl left) = only_synced bytes c left
-only_synced_in bytes c (inr none) = absurd none
+-- the state with another file that has the name
+abbrev with_current : PlaceState → State → PlaceState
+with_current s file = record { current = file; previous = s.previous }
 
 -- the state after a rename
 abbrev pub renamed : PlaceState → State → PlaceState
 renamed s draft = record { current = draft; previous = Some s.current }
 
--- a crash after a rename leaves the old file or the draft
-pub rename_leaves : (s : PlaceState) (draft : State) (c : List ℕ) → MayBeLeft (renamed s draft) c
-    → MayBeLeft s c ⊎ IsLeft draft c
-rename_leaves s draft c (inl left) = inr left
-rename_leaves s draft c (inr was) = inl (inl was)
-
 -- the state of a file whose name is on the disk
 abbrev pub settled : State → PlaceState
 settled file = record { current = file; previous = None }
 
+pub append_left : (bytes : List ℕ) (old new : PlaceState)
+    → new ≡ with_current old (after_append bytes old.current)
+    → Follows (TornAppend bytes) (MayBeLeft old) (MayBeLeft new)
+append_left bytes old new is =
+    subst (λ s. Follows (TornAppend bytes) (MayBeLeft old) (MayBeLeft s)) (sym is) follows
+  where
+    follows : Follows (TornAppend bytes) (MayBeLeft old)
+        (MayBeLeft (with_current old (after_append bytes old.current)))
+    follows c (inl left) =
+        let from = append_follows bytes old.current c left in (from.0, inl from.1, from.2)
+    follows c (inr was) = same_appends bytes (MayBeLeft old) c (inr was)
+
+pub append_none : (bytes : List ℕ) (old new : PlaceState) → new ≡ old
+    → Follows (TornAppend bytes) (MayBeLeft old) (MayBeLeft new)
+append_none bytes old new is =
+    subst (λ s. Follows (TornAppend bytes) (MayBeLeft old) (MayBeLeft s)) (sym is)
+    (same_appends bytes (MayBeLeft old))
+
+pub cut_left : (len : ℕ) (old new : PlaceState)
+    → new ≡ with_current old (after_cut len old.current)
+    → Follows (TornCut len) (MayBeLeft old) (MayBeLeft new)
+cut_left len old new is =
+    subst (λ s. Follows (TornCut len) (MayBeLeft old) (MayBeLeft s)) (sym is) follows
+  where
+    follows : Follows (TornCut len) (MayBeLeft old)
+        (MayBeLeft (with_current old (after_cut len old.current)))
+    follows c (inl left) =
+        let from = cut_follows len old.current c left in (from.0, inl from.1, from.2)
+    follows c (inr was) = (c, inr was, uncut len c)
+
+pub cut_none : (len : ℕ) (old new : PlaceState) → new ≡ old
+    → Follows (TornCut len) (MayBeLeft old) (MayBeLeft new)
+cut_none len old new is =
+    subst (λ s. Follows (TornCut len) (MayBeLeft old) (MayBeLeft s)) (sym is)
+    (same_cuts len (MayBeLeft old))
+
+pub cut_seen : (len : ℕ) (old new : PlaceState)
+    → new ≡ with_current old (after_cut len old.current)
+    → old.current.kept ≤ length old.current.synced
+    → seen_of new.current ≡ take len (seen_of old.current)
+cut_seen len old new is within =
+    ap (λ (s : PlaceState). seen_of s.current) is ∙ seen_of-after_cut len old.current within
+
+pub sync_left : (old new : PlaceState) → new ≡ settled (synced_with (seen_of old.current))
+    → Narrows (MayBeLeft old) (MayBeLeft new)
+sync_left old new is = subst (λ s. Narrows (MayBeLeft old) (MayBeLeft s)) (sym is) narrows
+  where
+    narrows : Narrows (MayBeLeft old) (MayBeLeft (settled (synced_with (seen_of old.current))))
+    narrows c (inl left) = inl (sync_narrows old.current c left)
+    narrows c (inr none) = absurd none
+
+pub sync_none : (old new : PlaceState) → new ≡ old → Narrows (MayBeLeft old) (MayBeLeft new)
+sync_none old new is c left = subst (λ (s : PlaceState). MayBeLeft s c) is left
+
+pub synced_left : (bytes : List ℕ) (new : PlaceState) → new ≡ settled (synced_with bytes)
+    → HasOneOutcome bytes (MayBeLeft new)
+synced_left bytes new is = subst (λ s. HasOneOutcome bytes (MayBeLeft s)) (sym is) only
+  where
+    only : HasOneOutcome bytes (MayBeLeft (settled (synced_with bytes)))
+    only c (inl left) = only_synced bytes c left
+    only c (inr none) = absurd none
+
+-- a crash after a rename leaves the old file or the draft
+pub rename_left : (old new : PlaceState) (draft : State) → new ≡ renamed old draft → (c : List ℕ)
+    → MayBeLeft new c → MayBeLeft old c ⊎ IsLeft draft c
+rename_left old new draft is c left =
+    leaves c (subst (λ (s : PlaceState). MayBeLeft s c) is left)
+  where
+    leaves : (c : List ℕ) → MayBeLeft (renamed old draft) c → MayBeLeft old c ⊎ IsLeft draft c
+    leaves c (inl left) = inr left
+    leaves c (inr was) = inl (inl was)
+
+-- no rename leaves what could be left before
+pub rename_none : (old new : PlaceState) (draft : State) → new ≡ old → (c : List ℕ)
+    → MayBeLeft new c → MayBeLeft old c ⊎ IsLeft draft c
+rename_none old new draft is c left = inl (subst (λ (s : PlaceState). MayBeLeft s c) is left)
+
+-- after a rename the name has the draft
+pub named_left : (old new : PlaceState) (draft : State) → new ≡ renamed old draft
+    → Narrows (IsLeft draft) (IsLeft new.current)
+named_left old new draft is c left = subst (λ (s : PlaceState). IsLeft s.current c) is left
+
 -- a crash after the sync of the folder leaves the file that has the name
-pub only_current : (file : State) → Narrows (IsLeft file) (MayBeLeft (settled file))
-only_current file c (inl left) = left
-only_current file c (inr none) = absurd none
+pub folder_left : (old new : PlaceState) → new ≡ settled old.current
+    → Narrows (IsLeft old.current) (MayBeLeft new)
+folder_left old new is = subst (λ s. Narrows (IsLeft old.current) (MayBeLeft s)) (sym is) only
+  where
+    only : Narrows (IsLeft old.current) (MayBeLeft (settled old.current))
+    only c (inl left) = left
+    only c (inr none) = absurd none
+
+pub folder_narrows : (old new : PlaceState) → new ≡ settled old.current
+    → Narrows (MayBeLeft old) (MayBeLeft new)
+folder_narrows old new is c left = inl (folder_left old new is c left)
+
+pub ruleset place_steps = (
+  elapses_still,
+  append_left,
+  append_none,
+  cut_left,
+  cut_none,
+  cut_seen,
+  sync_left,
+  sync_none,
+  synced_left,
+  rename_left,
+  rename_none,
+  named_left,
+  folder_left,
+  folder_narrows,
+)

@@ -94,6 +94,16 @@ module _ {R : Type 0} (model : RawModel R) where
       then_append old mid new first last fails [] one two
       (λ a. ([], [], refl, same ∙ appended_none (model.state mid))) ends
 
+  -- calls none of which has failed, as far as this says
+  pub calls_none : (old new : R) (fails : Type 0) → CallsRaw model old new fails
+      → CallsRaw model old new ⊥
+  calls_none old new fails calls = record {
+    time = calls.time;
+    identity = calls.identity;
+    failed = λ none. absurd none;
+    remains_failed = calls.remains_failed;
+  }
+
   -- The writes so far: a raw file was given the bytes before the rest.
   pub record WritesTo (old now : R) (bytes rest : List ℕ) : Type 0 where
     pub front : List ℕ
@@ -125,14 +135,9 @@ module _ {R : Type 0} (model : RawModel R) where
       front_on so.front rest (model.state old) (model.state mid) (model.state new) bytes so.split
       (so.state a) (front a)
 
--- nothing is claimed of a file of the operating system
-pub elapses_void : (s : State) → Elapses 0 0 (λ t c. ⊥) (λ t c. ⊥) (LeftNow ⊥ s)
-elapses_void s = record {
-  later = omega arith;
-  nothing_else = λ t c le since. absurd since;
-  keeps = λ t c le was. was;
-}
+pub ruleset raw_calls = (then_append, then_same, writes_failed)
 
+-- nothing is claimed of a file of the operating system
 pub narrows_void : (old new : State) → Narrows (LeftNow ⊥ old) (LeftNow ⊥ new)
 narrows_void old new c left = absurd left.0
 

@@ -79,3 +79,5 @@ module _ {F : Type 0} (model : FileModel F) (old : F) where
       then_call model old cut synced SameLines
       (after_cut len read cut so_far time is only cuts) sync_time
       (λ c now. inr (cut_lines len read cut is only cuts c (narrows c now)))
+
+pub ruleset recovers = (after_sync, after_read)

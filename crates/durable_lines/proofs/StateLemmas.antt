@@ -11,6 +11,7 @@ use Rattle.durable_lines.specs.FileState.{State, seen_of, synced_with, after_app
 use Rattle.durable_lines.specs.FileState.{torn_text, IsLeft}
 use Rattle.durable_lines.specs.declared.byte_fate.ByteFate.{ByteFate}
 use Rattle.durable_lines.specs.declared.byte_fate.ByteFate.TheVariants.{Kept, Zeroed, Missing}
+use Rattle.durable_lines.proofs.Moments.{elapses_still}
 
 -- bytes may be left as they are
 torn_same : (bytes : List ℕ) → IsTorn bytes bytes
@@ -71,8 +72,15 @@ append_follows bytes s c (inr torn) =
 pub uncut : (len : ℕ) (c : List ℕ) → TornCut len c c
 uncut len c = (len + length c, omega arith, sym (take_all (len + length c) c (omega arith)))
 
-pub unchanged_follows : (len : ℕ) (s : State) → Follows (TornCut len) (IsLeft s) (IsLeft s)
-unchanged_follows len s c left = (c, left, uncut len c)
+-- nothing is appended
+pub same_appends : (bytes : List ℕ) (may_leave : List ℕ → Type 0)
+    → Follows (TornAppend bytes) may_leave may_leave
+same_appends bytes may_leave c left = (c, left, ([], tt, sym (append-nil c)))
+
+-- nothing is cut
+pub same_cuts : (len : ℕ) (may_leave : List ℕ → Type 0)
+    → Follows (TornCut len) may_leave may_leave
+same_cuts len may_leave c left = (c, left, uncut len c)
 
 -- a cut into the synced bytes
 low_synced : (len : ℕ) (s : State) → (c : List ℕ) (n : ℕ) → len ≤ n → c ≡ take n s.synced
@@ -172,3 +180,56 @@ torn_by_torn (Missing ∷ fates) (byte ∷ bytes) = tt
 pub torn_possible : (s : State) (fates : List ByteFate) (c : List ℕ)
     → c ≡ take s.kept s.synced ++ torn_text fates s.added → IsLeft s c
 torn_possible s fates c is = inr (torn_text fates s.added, torn_by_torn fates s.added, is)
+
+-- ---- the steps of a file in memory
+
+pub append_left : (bytes : List ℕ) (old new : State) → new ≡ after_append bytes old
+    → Follows (TornAppend bytes) (IsLeft old) (IsLeft new)
+append_left bytes old new is =
+    subst (λ s. Follows (TornAppend bytes) (IsLeft old) (IsLeft s)) (sym is)
+    (append_follows bytes old)
+
+pub append_none : (bytes : List ℕ) (old new : State) → new ≡ old
+    → Follows (TornAppend bytes) (IsLeft old) (IsLeft new)
+append_none bytes old new is =
+    subst (λ s. Follows (TornAppend bytes) (IsLeft old) (IsLeft s)) (sym is)
+    (same_appends bytes (IsLeft old))
+
+pub cut_left : (len : ℕ) (old new : State) → new ≡ after_cut len old
+    → Follows (TornCut len) (IsLeft old) (IsLeft new)
+cut_left len old new is =
+    subst (λ s. Follows (TornCut len) (IsLeft old) (IsLeft s)) (sym is) (cut_follows len old)
+
+pub cut_none : (len : ℕ) (old new : State) → new ≡ old
+    → Follows (TornCut len) (IsLeft old) (IsLeft new)
+cut_none len old new is =
+    subst (λ s. Follows (TornCut len) (IsLeft old) (IsLeft s)) (sym is)
+    (same_cuts len (IsLeft old))
+
+pub cut_seen : (len : ℕ) (old new : State) → new ≡ after_cut len old
+    → old.kept ≤ length old.synced → seen_of new ≡ take len (seen_of old)
+cut_seen len old new is within = ap seen_of is ∙ seen_of-after_cut len old within
+
+pub sync_left : (old new : State) → new ≡ synced_with (seen_of old)
+    → Narrows (IsLeft old) (IsLeft new)
+sync_left old new is =
+    subst (λ s. Narrows (IsLeft old) (IsLeft s)) (sym is) (sync_narrows old)
+
+pub sync_none : (old new : State) → new ≡ old → Narrows (IsLeft old) (IsLeft new)
+sync_none old new is c left = subst (λ (s : State). IsLeft s c) is left
+
+pub synced_left : (bytes : List ℕ) (new : State) → new ≡ synced_with bytes
+    → HasOneOutcome bytes (IsLeft new)
+synced_left bytes new is = subst (λ s. HasOneOutcome bytes (IsLeft s)) (sym is) (only_synced bytes)
+
+pub ruleset file_steps = (
+  elapses_still,
+  append_left,
+  append_none,
+  cut_left,
+  cut_none,
+  cut_seen,
+  sync_left,
+  sync_none,
+  synced_left,
+)

@@ -2,12 +2,10 @@
 --     bytes_of        the bytes that a read returns
 --     moment_of       the number of changes and syncs so far
 --     states_of       its state at each moment, the present one last
---     LeftSince       what a crash since a moment may have left
 --     syncs_left      the number of syncs before one fails
 --     HasFailed       a call has failed
 use Rattle.std.specs.Prelude.{◌≡◌, ℕ, true, List, [], ◌∷◌, ◌++◌, length}
 use Rattle.durable_lines.specs.FileState.{State, seen_of, IsLeft}
-use Rattle.durable_lines.specs.Moments.{LeftIn}
 use Rattle.durable_lines.specs.declared.memory_file.MemoryFile.{MemoryFile}
 
 -- the bytes that a read returns
@@ -21,10 +19,6 @@ moment_of m = length m.past.items
 -- the state at each moment, the present one last
 abbrev pub states_of : MemoryFile → List State
 states_of m = m.past.items ++ m.state ∷ []
-
--- whether a crash since a moment may have left these bytes
-abbrev pub LeftSince : MemoryFile → ℕ → List ℕ → Type 0
-LeftSince m t c = LeftIn IsLeft m.past.items m.state t c
 
 -- the number of syncs before one fails
 abbrev pub syncs_left : MemoryFile → ℕ

@@ -4,11 +4,9 @@
 --     name_of         the state of the file that has the name now
 --     moment_of       the number of changes and syncs so far
 --     states_of       its state at each moment, the present one last
---     LeftSince       what a crash since a moment may have left
 use Rattle.std.specs.Prelude.{◌⊎◌, ℕ, Bool, List, [], ◌∷◌, ◌++◌, IsSomeAnd, if◌then◌else◌, length}
 use Rattle.std.specs.Prelude.{unwrap_or}
 use Rattle.durable_lines.specs.FileState.{State, IsLeft}
-use Rattle.durable_lines.specs.Moments.{LeftIn}
 use Rattle.durable_lines.specs.declared.memory_place.MemoryPlace.{MemoryPlace}
 use Rattle.durable_lines.specs.declared.memory_place.PlaceState.{PlaceState}
 
@@ -33,7 +31,3 @@ moment_of p = length p.past.items
 -- the state at each moment, the present one last
 abbrev pub states_of : MemoryPlace → List PlaceState
 states_of p = p.past.items ++ p.state ∷ []
-
--- whether a crash since a moment may have left these bytes under the name
-abbrev pub LeftSince : MemoryPlace → ℕ → List ℕ → Type 0
-LeftSince p t c = LeftIn MayBeLeft p.past.items p.state t c

@@ -1,11 +1,11 @@
 //! `MemoryFile`: a durable file in memory whose crashes a test can choose.
 ghost use Rattle.std.specs.Prelude.{◌≡◌, ◌≤◌, ◌-◌, ◌^◌, ◌++◌, ◌∷◌, [], ⊤, IfOk, OnOk, OnErr};
 ghost use Rattle.std.specs.Prelude.{IsSomeAnd, Some, length, slice_get};
-ghost use Rattle.std.proofs.Common.{inl};
-ghost use Rattle.durable_lines.specs.FileState.{text_left_by, text_left_uncut, synced_with, IsLeft};
-ghost use Rattle.durable_lines.specs.Moments.{only_present};
+ghost use Rattle.durable_lines.specs.FileState.{seen_of, text_left_by, text_left_uncut, synced_with};
+ghost use Rattle.durable_lines.specs.FileState.{IsLeft};
+ghost use Rattle.durable_lines.specs.Moments.{past_model, ElapsesIn};
 ghost use Rattle.durable_lines.specs.MemoryFile.{bytes_of, moment_of, states_of, syncs_left};
-ghost use Rattle.durable_lines.specs.MemoryFile.{HasFailed, LeftSince};
+ghost use Rattle.durable_lines.specs.MemoryFile.{HasFailed};
 
 use crate::byte_fate::ByteFate;
 use crate::durable_file::DurableFile;
@@ -122,6 +122,7 @@ impl MemoryFile {
 }
 
 // Replaces the state, and keeps the one before.
+#[tactic(auto, using(crate::proofs::PastLemmas::changes))]
 fn replace(
     alloc: Global,
     state: &mut FileState,
@@ -129,9 +130,8 @@ fn replace(
     next: FileState,
 ) -> Result<(), AllocError>
     ensures state { OnOk result (state.new ≡ next) }
-    ensures past { OnOk result (past.new.items ≡ past.old.items ++ state.old ∷ []) }
     ensures unchanged { OnErr result (state.new ≡ state.old) }
-    ensures past_unchanged { OnErr result (past.new.items ≡ past.old.items) }
+    ensures time { ElapsesIn IsLeft past.old.items state.old past.new.items state.new }
 {
     past.push(state.copy(alloc)?)?;
     *state = next;
@@ -139,22 +139,9 @@ fn replace(
 }
 
 impl DurableFile for MemoryFile {
-    ghost model = { record {
-      acts = ⊤;
-      identity = λ _. 0;
-      seen = bytes_of;
-      may_leave = λ m c. IsLeft m.state c;
-      moment = moment_of;
-      left_since = LeftSince;
-      stored = λ _ _. ⊤;
-      renews = λ _ _. ⊥;
-      has_failed = HasFailed;
-      overflows = λ _ _. ⊥;
-      also = λ _ _ _. ⊤;
-      counts_now = λ m t c le now. inl now;
-      only_now = λ m c left. only_present IsLeft m.past.items m.state c left;
-    } };
+    ghost model = { past_model IsLeft seen_of (λ m. m.state) (λ m. m.past.items) HasFailed };
 
+    #[tactic(auto, using(crate::proofs::StateLemmas::file_steps))]
     fn read(&mut self, alloc: Global) -> Result<Vec<u8>, FileFault> {
         if self.has_failed {
             return Err(FileFault::Failed);
@@ -162,6 +149,7 @@ impl DurableFile for MemoryFile {
         Ok(self.state.bytes(alloc)?)
     }
 
+    #[tactic(auto, using(crate::proofs::StateLemmas::file_steps))]
     fn append(&mut self, bytes: &[u8]) -> Result<(), FileFault> {
         if self.has_failed {
             return Err(FileFault::Failed);
@@ -170,6 +158,7 @@ impl DurableFile for MemoryFile {
         Ok(replace(self.alloc, &mut self.state, &mut self.past, next)?)
     }
 
+    #[tactic(auto, using(crate::proofs::StateLemmas::file_steps))]
     fn cut(&mut self, len: usize) -> Result<(), FileFault> {
         if self.has_failed {
             return Err(FileFault::Failed);
@@ -178,6 +167,7 @@ impl DurableFile for MemoryFile {
         Ok(replace(self.alloc, &mut self.state, &mut self.past, next)?)
     }
 
+    #[tactic(auto, using(crate::proofs::StateLemmas::file_steps))]
     fn sync(&mut self) -> Result<(), FileFault> {
         if self.has_failed {
             return Err(FileFault::Failed);

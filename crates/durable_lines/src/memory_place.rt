@@ -1,12 +1,11 @@
 //! `MemoryPlace`: a name in memory whose file can be replaced, with crashes that a test can choose.
 ghost use Rattle.std.specs.Prelude.{◌≡◌, ◌≤◌, ◌++◌, ◌∷◌, [], IfOk, OnErr, OnOk, IsSomeAnd, List};
 ghost use Rattle.std.specs.Prelude.{None, Some, length, slice_get, ℕ, ⊤};
-ghost use Rattle.std.proofs.Common.{inl};
 ghost use Rattle.durable_lines.specs.FileState.{after_append, after_cut, text_left_by, seen_of};
 ghost use Rattle.durable_lines.specs.FileState.{synced_with, IsLeft};
 ghost use Rattle.durable_lines.specs.MemoryPlace.{file_after, moment_of, name_of, states_of};
-ghost use Rattle.durable_lines.specs.MemoryPlace.{LeftSince, MayBeLeft};
-ghost use Rattle.durable_lines.specs.Moments.{only_present};
+ghost use Rattle.durable_lines.specs.MemoryPlace.{MayBeLeft};
+ghost use Rattle.durable_lines.specs.Moments.{past_model, ElapsesIn};
 
 use crate::byte_fate::ByteFate;
 use crate::durable_file::DurableFile;
@@ -186,6 +185,7 @@ impl MemoryPlace {
 }
 
 // Replaces the state, and keeps the one before.
+#[tactic(auto, using(crate::proofs::PastLemmas::changes))]
 fn change(
     alloc: Global,
     state: &mut PlaceState,
@@ -193,9 +193,8 @@ fn change(
     next: PlaceState,
 ) -> Result<(), AllocError>
     ensures state { OnOk result (state.new ≡ next) }
-    ensures past { OnOk result (past.new.items ≡ past.old.items ++ state.old ∷ []) }
     ensures unchanged { OnErr result (state.new ≡ state.old) }
-    ensures past_unchanged { OnErr result (past.new.items ≡ past.old.items) }
+    ensures time { ElapsesIn MayBeLeft past.old.items state.old past.new.items state.new }
 {
     past.push(state.copy(alloc)?)?;
     *state = next;
@@ -203,36 +202,27 @@ fn change(
 }
 
 impl DurableFile for MemoryPlace {
-    ghost model = { record {
-      acts = ⊤;
-      identity = λ _. 0;
-      seen = λ p. seen_of (name_of p);
-      may_leave = λ p c. MayBeLeft p.state c;
-      moment = moment_of;
-      left_since = LeftSince;
-      stored = λ _ _. ⊤;
-      renews = λ _ _. ⊥;
-      has_failed = λ _. ⊥;
-      overflows = λ _ _. ⊥;
-      also = λ _ _ _. ⊤;
-      counts_now = λ p t c le now. inl now;
-      only_now = λ p c left. only_present MayBeLeft p.past.items p.state c left;
-    } };
+    ghost model = { past_model MayBeLeft (λ s. seen_of s.current) (λ p. p.state)
+        (λ p. p.past.items) (λ _. ⊥) };
 
+    #[tactic(auto, using(crate::proofs::PlaceLemmas::place_steps))]
     fn read(&mut self, alloc: Global) -> Result<Vec<u8>, FileFault> {
         Ok(self.state.current.bytes(alloc)?)
     }
 
+    #[tactic(auto, using(crate::proofs::PlaceLemmas::place_steps))]
     fn append(&mut self, bytes: &[u8]) -> Result<(), FileFault> {
         let next = self.state.with_added(self.alloc, bytes)?;
         Ok(change(self.alloc, &mut self.state, &mut self.past, next)?)
     }
 
+    #[tactic(auto, using(crate::proofs::PlaceLemmas::place_steps))]
     fn cut(&mut self, len: usize) -> Result<(), FileFault> {
         let next = self.state.with_cut(self.alloc, len)?;
         Ok(change(self.alloc, &mut self.state, &mut self.past, next)?)
     }
 
+    #[tactic(auto, using(crate::proofs::PlaceLemmas::place_steps))]
     fn sync(&mut self) -> Result<(), FileFault> {
         let bytes = self.state.current.bytes(self.alloc)?;
         let next = PlaceState {
@@ -250,10 +240,12 @@ impl Place for MemoryPlace {
 
     ghost drafts_act = { λ acts. acts };
 
+    #[tactic(auto, using(crate::proofs::PlaceLemmas::place_steps))]
     fn create_draft(&mut self) -> Result<MemoryFile, FileFault> {
         Ok(MemoryFile::new(self.alloc, Vec::new(self.alloc)))
     }
 
+    #[tactic(auto, using(crate::proofs::PlaceLemmas::place_steps))]
     fn rename(&mut self, draft: MemoryFile) -> Result<(), FileFault> {
         let renamed = self.state.renamed(self.alloc, draft.state());
         drop(draft);
@@ -261,6 +253,7 @@ impl Place for MemoryPlace {
         Ok(change(self.alloc, &mut self.state, &mut self.past, next)?)
     }
 
+    #[tactic(auto, using(crate::proofs::PlaceLemmas::place_steps))]
     fn sync_folder(&mut self) -> Result<(), FileFault> {
         let next = PlaceState {
             current: self.state.current.copy(self.alloc)?,

@@ -51,7 +51,7 @@ impl RawFile for OsFile {
         }
     }
 
-    #[tactic(auto, using(crate::proofs::RawLemmas::elapses_void))]
+    #[tactic(auto, using(crate::proofs::Moments::elapses_still))]
     fn seek_start(&mut self) -> io::Result<()> {
         match self.file.seek(SeekFrom::Start(0)) {
             Ok(_) => Ok(()),
@@ -59,27 +59,27 @@ impl RawFile for OsFile {
         }
     }
 
-    #[tactic(auto, using(crate::proofs::RawLemmas::elapses_void))]
+    #[tactic(auto, using(crate::proofs::Moments::elapses_still))]
     fn seek_end(&mut self) -> io::Result<u64> {
         self.file.seek(SeekFrom::End(0))
     }
 
-    #[tactic(auto, using(crate::proofs::RawLemmas::elapses_void))]
+    #[tactic(auto, using(crate::proofs::Moments::elapses_still))]
     fn read(&mut self, buffer: &mut [u8]) -> io::Result<usize> {
         self.file.read(buffer)
     }
 
-    #[tactic(auto, using(crate::proofs::RawLemmas::elapses_void))]
+    #[tactic(auto, using(crate::proofs::Moments::elapses_still))]
     fn write(&mut self, bytes: &[u8]) -> io::Result<usize> {
         self.file.write(bytes)
     }
 
-    #[tactic(auto, using(crate::proofs::RawLemmas::elapses_void))]
+    #[tactic(auto, using(crate::proofs::Moments::elapses_still))]
     fn set_len(&mut self, len: usize) -> io::Result<()> {
         self.file.set_len(len as u64)
     }
 
-    #[tactic(auto, using(crate::proofs::RawLemmas::elapses_void, crate::proofs::RawLemmas::narrows_void))]
+    #[tactic(auto, using(crate::proofs::Moments::elapses_still, crate::proofs::RawLemmas::narrows_void))]
     fn sync_data(&mut self) -> io::Result<()> {
         self.file.sync_data()
     }

@@ -24,6 +24,7 @@ pub struct Recovered {
 ///
 /// The file is synced before it is read: bytes that a killed process has left may be in memory
 /// only.
+#[tactic(auto, using(crate::proofs::RecoveryLemmas::recovers))]
 pub fn recover<F: DurableFile>(alloc: Global, file: &mut F) -> Result<Recovered, FileFault>
     ensures text { IfOk result (λ found. F.model.acts
         → found.text.items ≡ text_of (lines_in (F.model.seen file.old))) }

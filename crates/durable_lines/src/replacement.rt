@@ -15,6 +15,7 @@ use crate::place::Place;
 /// `Failed` says that the place has failed, or its draft, to which the bytes were appended.
 /// `TooLong` says that the bytes exceed the limit of a draft. After an error the name has the old
 /// file or the new one, and nothing more may be appended.
+#[tactic(auto, using(crate::proofs::ReplaceLemmas::after_create))]
 pub fn replace<P: Place>(place: &mut P, bytes: &[u8]) -> Result<(), FileFault>
     ensures bytes { OnOk result (P.model.acts → P.model.seen place.new ≡ bytes.now) }
     ensures replaced { OnOk result (P.model.acts

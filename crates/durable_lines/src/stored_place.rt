@@ -203,7 +203,7 @@ impl<F: RawFolder> DurableFile for StoredPlace<F> {
       only_now = λ place c left. left;
     } };
 
-    #[tactic(auto, using(crate::proofs::PastLemmas::elapses_unclaimed))]
+    #[tactic(auto, using(crate::proofs::Moments::elapses_still))]
     fn read(&mut self, alloc: Global) -> Result<Vec<u8>, FileFault> {
         if self.has_failed {
             return Err(FileFault::Failed);
@@ -212,7 +212,7 @@ impl<F: RawFolder> DurableFile for StoredPlace<F> {
         record_failure(&mut self.has_failed, call)
     }
 
-    #[tactic(auto, using(crate::proofs::PastLemmas::elapses_unclaimed))]
+    #[tactic(auto, using(crate::proofs::Moments::elapses_still))]
     fn append(&mut self, bytes: &[u8]) -> Result<(), FileFault> {
         if self.has_failed {
             return Err(FileFault::Failed);
@@ -221,7 +221,7 @@ impl<F: RawFolder> DurableFile for StoredPlace<F> {
         record_failure(&mut self.has_failed, call)
     }
 
-    #[tactic(auto, using(crate::proofs::PastLemmas::elapses_unclaimed))]
+    #[tactic(auto, using(crate::proofs::Moments::elapses_still))]
     fn cut(&mut self, len: usize) -> Result<(), FileFault> {
         if self.has_failed {
             return Err(FileFault::Failed);
@@ -230,7 +230,7 @@ impl<F: RawFolder> DurableFile for StoredPlace<F> {
         record_failure(&mut self.has_failed, call)
     }
 
-    #[tactic(auto, using(crate::proofs::PastLemmas::elapses_unclaimed))]
+    #[tactic(auto, using(crate::proofs::Moments::elapses_still))]
     fn sync(&mut self) -> Result<(), FileFault> {
         if self.has_failed {
             return Err(FileFault::Failed);
@@ -252,7 +252,7 @@ impl<F: RawFolder> Place for StoredPlace<F> {
 
     ghost drafts_act = { λ acts. absurd acts };
 
-    #[tactic(auto, using(crate::proofs::PastLemmas::elapses_unclaimed))]
+    #[tactic(auto, using(crate::proofs::Moments::elapses_still))]
     fn create_draft(&mut self) -> Result<StoredFile<F::File>, FileFault> {
         if self.has_failed {
             return Err(FileFault::Failed);
@@ -262,7 +262,7 @@ impl<F: RawFolder> Place for StoredPlace<F> {
         record_failure(&mut self.has_failed, call)
     }
 
-    #[tactic(auto, using(crate::proofs::PastLemmas::elapses_unclaimed))]
+    #[tactic(auto, using(crate::proofs::Moments::elapses_still))]
     fn rename(&mut self, draft: StoredFile<F::File>) -> Result<(), FileFault> {
         if self.has_failed {
             return Err(FileFault::Failed);
@@ -273,7 +273,7 @@ impl<F: RawFolder> Place for StoredPlace<F> {
         record_failure(&mut self.has_failed, call.map_err(|_| FileFault::Failed))
     }
 
-    #[tactic(auto, using(crate::proofs::PastLemmas::elapses_unclaimed))]
+    #[tactic(auto, using(crate::proofs::Moments::elapses_still))]
     fn sync_folder(&mut self) -> Result<(), FileFault> {
         if self.has_failed {
             return Err(FileFault::Failed);

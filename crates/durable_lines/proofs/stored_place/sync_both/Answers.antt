@@ -1,20 +1,18 @@
 use Rattle.std.proofs.Common.{List, ℕ, sym, subst}
 use Rattle.durable_lines.specs.CrashModel.{HasOneOutcome}
-use Rattle.durable_lines.specs.RawFile.{LeftNow}
+use Rattle.durable_lines.specs.RawModel.{LeftOfRaw}
 use Rattle.durable_lines.proofs.FolderLemmas.{on_ok_any}
 use Rattle.durable_lines.proofs.stored_place.sync_both.Goals as goal
 
 pub returns-then-is_renamed-clause-file : goal.returns-then-is_renamed-clause-file
 returns-then-is_renamed-clause-file g c =
-    let raw = g.F.File.RawFile in
     on_ok_any c.map_err.result
     (subst (λ (bytes : List ℕ). HasOneOutcome bytes
-    (LeftNow raw.acts (raw.state c.sync.new.self.raw)))
+    (LeftOfRaw g.F.File.RawFile.model c.sync.new.self.raw))
     (sym c.in_ok-sync-in-Some.ensures.unchanged) c.in_ok-sync-in-Some.ensures.durable)
 
 pub returns-clause-file : goal.returns-clause-file
 returns-clause-file g c =
-    let raw = g.F.File.RawFile in
     subst (λ (bytes : List ℕ). HasOneOutcome bytes
-    (LeftNow raw.acts (raw.state c.sync.new.self.raw)))
+    (LeftOfRaw g.F.File.RawFile.model c.sync.new.self.raw))
     (sym c.in_ok-sync-in-Some.ensures.unchanged) c.in_ok-sync-in-Some.ensures.durable
