@@ -118,19 +118,4 @@ pub folder_narrows : (old new : PlaceState) → new ≡ settled old.current
     → Narrows (MayBeLeft old) (MayBeLeft new)
 folder_narrows old new is c left = inl (folder_left old new is c left)
 
-pub ruleset place_steps = (
-  elapses_still,
-  append_left,
-  append_none,
-  cut_left,
-  cut_none,
-  cut_seen,
-  sync_left,
-  sync_none,
-  synced_left,
-  rename_left,
-  rename_none,
-  named_left,
-  folder_left,
-  folder_narrows,
-)
+pub ruleset place_steps = (elapses_still, append_none, sync_none, rename_none)

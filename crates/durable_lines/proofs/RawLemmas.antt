@@ -135,8 +135,6 @@ module _ {R : Type 0} (model : RawModel R) where
       front_on so.front rest (model.state old) (model.state mid) (model.state new) bytes so.split
       (so.state a) (front a)
 
-pub ruleset raw_calls = (then_append, then_same, writes_failed)
-
 -- nothing is claimed of a file of the operating system
 pub narrows_void : (old new : State) → Narrows (LeftNow ⊥ old) (LeftNow ⊥ new)
 narrows_void old new c left = absurd left.0

@@ -222,14 +222,4 @@ pub synced_left : (bytes : List ℕ) (new : State) → new ≡ synced_with bytes
     → HasOneOutcome bytes (IsLeft new)
 synced_left bytes new is = subst (λ s. HasOneOutcome bytes (IsLeft s)) (sym is) (only_synced bytes)
 
-pub ruleset file_steps = (
-  elapses_still,
-  append_left,
-  append_none,
-  cut_left,
-  cut_none,
-  cut_seen,
-  sync_left,
-  sync_none,
-  synced_left,
-)
+pub ruleset file_steps = (elapses_still, append_none, sync_none)

@@ -51,7 +51,6 @@ fn read_retrying<R: RawFile>(raw: &mut R, buffer: &mut [u8]) -> Result<usize, Fi
 }
 
 // Returns all bytes of a file, or `TooLong` if there are more than `limit`.
-#[tactic(auto, using(crate::proofs::RawLemmas::raw_calls))]
 pub(crate) fn read_within<R: RawFile>(
     alloc: Global,
     raw: &mut R,
@@ -107,7 +106,6 @@ fn write_retrying<R: RawFile>(raw: &mut R, bytes: &[u8]) -> Result<usize, FileFa
 }
 
 // Writes all bytes at the end of a file. After an error a front of them may have been written.
-#[tactic(auto, using(crate::proofs::RawLemmas::raw_calls))]
 fn write_all<R: RawFile>(raw: &mut R, bytes: &[u8]) -> Result<(), FileFault>
     requires { R.model.acts → IsAtEnd R.model raw.old }
     ensures written { OnOk result
@@ -129,7 +127,6 @@ fn write_all<R: RawFile>(raw: &mut R, bytes: &[u8]) -> Result<(), FileFault>
 }
 
 // Appends bytes at the end of a file, or returns `TooLong` if it would exceed `limit`.
-#[tactic(auto, using(crate::proofs::RawLemmas::raw_calls))]
 pub(crate) fn append_within<R: RawFile>(
     raw: &mut R,
     limit: usize,

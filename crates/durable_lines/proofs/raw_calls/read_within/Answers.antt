@@ -6,6 +6,26 @@ use Rattle.durable_lines.proofs.RawLemmas.{ReadsTo, calls_none, reads_all, reads
 use Rattle.durable_lines.proofs.RawLemmas.{then_same}
 use Rattle.durable_lines.proofs.raw_calls.read_within.Goals as goal
 
+pub returns-in_err-count-clause-call : goal.returns-in_err-count-clause-call
+returns-in_err-count-clause-call g c = then_same g.R.RawFile.model _ _ _ _ _ _
+    c.pieces.invariant.calls c.read_retrying.ensures.call c.read_retrying.ensures.state
+    (λ failed. search rules)
+
+pub returns-then-count-eq0-clause-call : goal.returns-then-count-eq0-clause-call
+returns-then-count-eq0-clause-call g c = then_same g.R.RawFile.model _ _ _ _ _ _
+    c.pieces.invariant.calls c.read_retrying.ensures.call c.read_retrying.ensures.state
+    (λ failed. search rules)
+
+pub returns-in_err-extend_from_slice-clause-call : goal.returns-in_err-extend_from_slice-clause-call
+returns-in_err-extend_from_slice-clause-call g c = then_same g.R.RawFile.model _ _ _ _ _ _
+    c.pieces.invariant.calls c.read_retrying.ensures.call c.read_retrying.ensures.state
+    (λ failed. search rules)
+
+pub returns-then-len-limit-clause-call : goal.returns-then-len-limit-clause-call
+returns-then-len-limit-clause-call g c = then_same g.R.RawFile.model _ _ _ _ _ _
+    c.pieces.invariant.calls c.read_retrying.ensures.call c.read_retrying.ensures.state
+    (λ failed. search rules)
+
 pub returns-then-count-eq0-clause-bytes : goal.returns-then-count-eq0-clause-bytes
 returns-then-count-eq0-clause-bytes g c acts =
     let model = g.R.RawFile.model in
