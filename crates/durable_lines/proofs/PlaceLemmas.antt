@@ -1,5 +1,5 @@
 -- What a crash leaves under a name in memory after an append, a cut, a rename and a sync.
-use Rattle.std.proofs.Common.{◌≡◌, ◌⊎◌, inl, inr, ℕ, ◌≤◌, List, [], None, Some, length, take}
+use Rattle.std.proofs.Common.{◌≡◌, ◌⊎◌, inl, inr, ℕ, ◌≤◌, List, None, Some, length, take}
 use Rattle.std.proofs.Common.{sym, ap, subst, ◌∙◌}
 use Rattle.durable_lines.specs.CrashModel.{Follows, Narrows, HasOneOutcome, TornAppend, TornCut}
 use Rattle.durable_lines.specs.FileState.{State, seen_of, synced_with, after_append, after_cut}

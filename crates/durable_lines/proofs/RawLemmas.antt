@@ -1,10 +1,10 @@
 -- Calls on a raw file, one after another: writes at its end, reads, a cut, a sync.
-use Rattle.std.proofs.Common.{◌≡◌, ◌⊎◌, inl, inr, ⊎_elim, ℕ, ◌+◌, ◌<◌, ◌≤◌, List, [], ◌∷◌, ◌++◌}
+use Rattle.std.proofs.Common.{◌≡◌, inl, inr, ⊎_elim, ℕ, ◌<◌, ◌≤◌, List, [], ◌∷◌, ◌++◌}
 use Rattle.std.proofs.Common.{length, take, drop, refl, sym, ◌∙◌, ap, subst, arith, append_assoc}
 use Rattle.std.proofs.Common.{append-nil, length-append, take-append-drop}
 use Rattle.std.proofs.Math.Seq.{drop-append_seam}
 use Rattle.std.proofs.lemmas.List.{nil_from_length}
-use Rattle.durable_lines.specs.CrashModel.{Elapses, Follows, IsTorn, Narrows, HasOneOutcome}
+use Rattle.durable_lines.specs.CrashModel.{Follows, IsTorn, Narrows, HasOneOutcome}
 use Rattle.durable_lines.specs.CrashModel.{TornAppend, TornCut}
 use Rattle.durable_lines.specs.FileState.{State, synced_with, IsLeft, after_append}
 use Rattle.durable_lines.specs.RawFile.{CutsOrStays, HasFront, LeftNow, ReadsPiece}

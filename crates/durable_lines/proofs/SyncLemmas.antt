@@ -1,5 +1,5 @@
 -- What is known after a sync.
-use Rattle.std.proofs.Common.{◌≡◌, ℕ, List, Result, Ok, Err, OnOk, sym, subst}
+use Rattle.std.proofs.Common.{◌≡◌, Result, Ok, Err, OnOk, sym, subst}
 use Rattle.durable_lines.specs.CrashModel.{HasOneOutcome}
 use Rattle.durable_lines.specs.FileModel.{FileModel}
 use Rattle.durable_lines.specs.Lines.{IsReady, IsSettled, IsText}

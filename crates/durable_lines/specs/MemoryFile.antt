@@ -5,7 +5,7 @@
 --     syncs_left      the number of syncs before one fails
 --     HasFailed       a call has failed
 use Rattle.std.specs.Prelude.{◌≡◌, ℕ, true, List, [], ◌∷◌, ◌++◌, length}
-use Rattle.durable_lines.specs.FileState.{State, seen_of, IsLeft}
+use Rattle.durable_lines.specs.FileState.{State, seen_of}
 use Rattle.durable_lines.specs.declared.memory_file.MemoryFile.{MemoryFile}
 
 -- the bytes that a read returns
