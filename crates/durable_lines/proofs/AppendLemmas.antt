@@ -16,25 +16,19 @@ module _ {F : Type 0} (model : FileModel F) (old : F) (text : List ℕ)
   before_append c now = subst FrontLines (sym (settled.durable c now))
       (none_added (lines_in (model.seen old)) (lines_in text))
 
-  append_leaves : (appended : F)
-      → Follows (TornAppend text) (model.may_leave old) (model.may_leave appended)
-      → (c : List ℕ) → model.may_leave appended c → FrontLines c
-  append_leaves appended crash c now =
-      let from = crash c now in
-      torn_append (model.seen old) text c settled.text
-      (subst (λ d. TornAppend text d c) (settled.durable from.0 from.1) from.2)
+  module _ (appended : F) (time : PassesTime model old appended)
+      (crash : Follows (TornAppend text) (model.may_leave old) (model.may_leave appended)) where
+    append_leaves : (c : List ℕ) → model.may_leave appended c → FrontLines c
+    append_leaves c now =
+        let from = crash c now in
+        torn_append (model.seen old) text c settled.text
+        (subst (λ d. TornAppend text d c) (settled.durable from.0 from.1) from.2)
 
-  pub after_append : (appended : F) → PassesTime model old appended
-      → Follows (TornAppend text) (model.may_leave old) (model.may_leave appended)
-      → LeavesOnly model old appended FrontLines
-  after_append appended time crash =
-      one_call model old appended FrontLines before_append time (append_leaves appended crash)
+    pub after_append : LeavesOnly model old appended FrontLines
+    after_append = one_call model old appended FrontLines before_append time append_leaves
 
-  pub after_sync : (appended synced : F) → PassesTime model old appended
-      → Follows (TornAppend text) (model.may_leave old) (model.may_leave appended)
-      → PassesTime model appended synced
-      → Narrows (model.may_leave appended) (model.may_leave synced)
-      → LeavesOnly model old synced FrontLines
-  after_sync appended synced time crash sync_time narrows =
-      then_call model old appended synced FrontLines (after_append appended time crash) sync_time
-      (λ c now. append_leaves appended crash c (narrows c now))
+    pub after_sync : (synced : F) → PassesTime model appended synced
+        → Narrows (model.may_leave appended) (model.may_leave synced)
+        → LeavesOnly model old synced FrontLines
+    after_sync synced sync_time narrows = then_call model old appended synced FrontLines
+        after_append sync_time (λ c now. append_leaves c (narrows c now))

@@ -8,7 +8,7 @@ use Rattle.durable_lines.specs.MemoryPlace.{MayBeLeft}
 use Rattle.durable_lines.specs.declared.memory_place.PlaceState.{PlaceState}
 use Rattle.durable_lines.proofs.Moments.{elapses_still}
 use Rattle.durable_lines.proofs.StateLemmas.{append_follows, cut_follows, only_synced}
-use Rattle.durable_lines.proofs.StateLemmas.{same_appends, same_cuts, seen_of-after_cut}
+use Rattle.durable_lines.proofs.StateLemmas.{same_appends, seen_of-after_cut}
 use Rattle.durable_lines.proofs.StateLemmas.{sync_narrows, uncut}
 
 -- the state with another file that has the name
@@ -52,12 +52,6 @@ cut_left len old new is =
     follows c (inl left) =
         let from = cut_follows len old.current c left in (from.0, inl from.1, from.2)
     follows c (inr was) = (c, inr was, uncut len c)
-
-pub cut_none : (len : ℕ) (old new : PlaceState) → new ≡ old
-    → Follows (TornCut len) (MayBeLeft old) (MayBeLeft new)
-cut_none len old new is =
-    subst (λ s. Follows (TornCut len) (MayBeLeft old) (MayBeLeft s)) (sym is)
-    (same_cuts len (MayBeLeft old))
 
 pub cut_seen : (len : ℕ) (old new : PlaceState)
     → new ≡ with_current old (after_cut len old.current)

@@ -26,58 +26,44 @@ cut_text len old synced read scanned left same reads scans is cut =
     cut ∙ ap (take len) found
     ∙ cut_bytes len old (is ∙ ap (λ l. length (text_of (lines_in l))) (scans ∙ found))
 
-module _ {F : Type 0} (model : FileModel F) (old : F) where
+module _ {F : Type 0} (model : FileModel F) (old synced : F) (time : PassesTime model old synced)
+    (narrows : Narrows (model.may_leave old) (model.may_leave synced)) where
   -- what a crash may leave: what it could before, or the same lines
-  abbrev pub SameLines : List ℕ → Type 0
+  abbrev SameLines : List ℕ → Type 0
   SameLines c = model.may_leave old c ⊎ (lines_in c ≡ lines_in (model.seen old))
 
   -- the first sync
-  pub after_sync : (synced : F) → PassesTime model old synced
-      → Narrows (model.may_leave old) (model.may_leave synced)
-      → LeavesOnly model old synced SameLines
-  after_sync synced time narrows =
+  pub after_sync : LeavesOnly model old synced SameLines
+  after_sync =
       one_call model old synced SameLines (λ c now. inl now) time (λ c now. inl (narrows c now))
 
-  -- the read
-  pub after_read : (synced read : F) → LeavesOnly model old synced SameLines
-      → PassesTime model synced read → Narrows (model.may_leave old) (model.may_leave synced)
-      → Narrows (model.may_leave synced) (model.may_leave read)
-      → LeavesOnly model old read SameLines
-  after_read synced read so_far time narrows reads =
-      then_call model old synced read SameLines so_far time
-      (λ c now. inl (narrows c (reads c now)))
+  module _ (read : F) (read_time : PassesTime model synced read)
+      (reads : Narrows (model.may_leave synced) (model.may_leave read)) where
+    -- the read
+    pub after_read : LeavesOnly model old read SameLines
+    after_read = then_call model old synced read SameLines after_sync read_time
+        (λ c now. inl (narrows c (reads c now)))
 
-  -- a crash after the cut leaves the same lines
-  cut_lines : (len : ℕ) (read cut : F) → len ≡ length (text_of (lines_in (model.seen old)))
-      → HasOneOutcome (model.seen old) (model.may_leave read)
-      → Follows (TornCut len) (model.may_leave read) (model.may_leave cut)
-      → (c : List ℕ) → model.may_leave cut c → lines_in c ≡ lines_in (model.seen old)
-  cut_lines len read cut is only cuts c now =
-      let from = cuts c now in
-      torn_cut len (model.seen old) c is
-      (subst (λ d. TornCut len d c) (only from.0 from.1) from.2)
+    module _ (len : ℕ) (cut : F) (is : len ≡ length (text_of (lines_in (model.seen old))))
+        (only : HasOneOutcome (model.seen old) (model.may_leave synced))
+        (cut_time : PassesTime model read cut)
+        (cuts : Follows (TornCut len) (model.may_leave read) (model.may_leave cut)) where
+      -- a crash after the cut leaves the same lines
+      cut_lines : (c : List ℕ) → model.may_leave cut c → SameLines c
+      cut_lines c now =
+          let from = cuts c now in
+          inr (torn_cut len (model.seen old) c is (subst (λ d. TornCut len d c)
+          (only from.0 (reads from.0 from.1)) from.2))
 
-  -- the cut
-  pub after_cut : (len : ℕ) (read cut : F) → LeavesOnly model old read SameLines
-      → PassesTime model read cut → len ≡ length (text_of (lines_in (model.seen old)))
-      → HasOneOutcome (model.seen old) (model.may_leave read)
-      → Follows (TornCut len) (model.may_leave read) (model.may_leave cut)
-      → LeavesOnly model old cut SameLines
-  after_cut len read cut so_far time is only cuts =
-      then_call model old read cut SameLines so_far time
-      (λ c now. inr (cut_lines len read cut is only cuts c now))
+      -- the cut
+      pub after_cut : LeavesOnly model old cut SameLines
+      after_cut = then_call model old read cut SameLines after_read cut_time cut_lines
 
-  -- the second sync
-  pub after_resync : (len : ℕ) (read cut synced : F) → LeavesOnly model old read SameLines
-      → PassesTime model read cut → len ≡ length (text_of (lines_in (model.seen old)))
-      → HasOneOutcome (model.seen old) (model.may_leave read)
-      → Follows (TornCut len) (model.may_leave read) (model.may_leave cut)
-      → PassesTime model cut synced
-      → Narrows (model.may_leave cut) (model.may_leave synced)
-      → LeavesOnly model old synced SameLines
-  after_resync len read cut synced so_far time is only cuts sync_time narrows =
-      then_call model old cut synced SameLines
-      (after_cut len read cut so_far time is only cuts) sync_time
-      (λ c now. inr (cut_lines len read cut is only cuts c (narrows c now)))
+      -- the second sync
+      pub after_resync : (again : F) → PassesTime model cut again
+          → Narrows (model.may_leave cut) (model.may_leave again)
+          → LeavesOnly model old again SameLines
+      after_resync again again_time same = then_call model old cut again SameLines after_cut
+          again_time (λ c now. cut_lines c (same c now))
 
 pub ruleset recovers = (after_sync, after_read)

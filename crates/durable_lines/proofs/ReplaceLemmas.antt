@@ -17,48 +17,39 @@ pub draft_outcome : (empty appended bytes : List ℕ) (draft : List ℕ → Type
 draft_outcome empty appended bytes draft none written only c left =
     only c left ∙ draft_bytes empty appended bytes none written
 
-module _ {F : Type 0} (model : FileModel F) (old : F) (bytes : List ℕ) where
+module _ {F : Type 0} (model : FileModel F) (old : F) (bytes : List ℕ) (created : F)
+    (time : PassesTime model old created)
+    (narrows : Narrows (model.may_leave old) (model.may_leave created)) where
   -- what a crash may leave: what it could before, or the new bytes
   abbrev OldOrNew : List ℕ → Type 0
   OldOrNew c = model.may_leave old c ⊎ (c ≡ bytes)
 
   -- the draft is created
-  pub after_create : (created : F) → PassesTime model old created
-      → Narrows (model.may_leave old) (model.may_leave created)
-      → LeavesOnly model old created OldOrNew
-  after_create created time narrows =
+  pub after_create : LeavesOnly model old created OldOrNew
+  after_create =
       one_call model old created OldOrNew (λ c now. inl now) time (λ c now. inl (narrows c now))
 
-  -- a crash after the rename leaves the old file or the draft
-  old_or_draft : (created renamed : F) (draft : List ℕ → Type 0)
-      → Narrows (model.may_leave old) (model.may_leave created) → HasOneOutcome bytes draft
-      → ((c : List ℕ) → model.may_leave renamed c → model.may_leave created c ⊎ draft c)
-      → (c : List ℕ) → model.may_leave renamed c → OldOrNew c
-  old_or_draft created renamed draft narrows only renames c now =
-      ⊎_elim (λ was. inl (narrows c was)) (λ new. inr (only c new)) (renames c now)
+  module _ (renamed : F) (draft : List ℕ → Type 0) (rename_time : PassesTime model created renamed)
+      (only : HasOneOutcome bytes draft)
+      (renames : (c : List ℕ) → model.may_leave renamed c → model.may_leave created c ⊎ draft c)
+      where
+    -- a crash after the rename leaves the old file or the draft
+    old_or_draft : (c : List ℕ) → model.may_leave renamed c → OldOrNew c
+    old_or_draft c now =
+        ⊎_elim (λ was. inl (narrows c was)) (λ new. inr (only c new)) (renames c now)
 
-  -- the draft gets the name
-  pub after_rename : (created renamed : F) (draft : List ℕ → Type 0)
-      → PassesTime model old created → Narrows (model.may_leave old) (model.may_leave created)
-      → PassesTime model created renamed → HasOneOutcome bytes draft
-      → ((c : List ℕ) → model.may_leave renamed c → model.may_leave created c ⊎ draft c)
-      → LeavesOnly model old renamed OldOrNew
-  after_rename created renamed draft time narrows rename_time only renames =
-      then_call model old created renamed OldOrNew (after_create created time narrows) rename_time
-      (old_or_draft created renamed draft narrows only renames)
+    -- the draft gets the name
+    pub after_rename : LeavesOnly model old renamed OldOrNew
+    after_rename =
+        then_call model old created renamed OldOrNew after_create rename_time old_or_draft
 
-  -- the folder is synced
-  pub after_folder : (created renamed synced : F) (draft : List ℕ → Type 0)
-      → PassesTime model old created → Narrows (model.may_leave old) (model.may_leave created)
-      → PassesTime model created renamed → HasOneOutcome bytes draft
-      → ((c : List ℕ) → model.may_leave renamed c → model.may_leave created c ⊎ draft c)
-      → PassesTime model renamed synced
-      → Narrows (model.may_leave renamed) (model.may_leave synced)
-      → LeavesOnly model old synced OldOrNew
-  after_folder created renamed synced draft time narrows rename_time only renames sync_time syncs =
-      then_call model old renamed synced OldOrNew
-      (after_rename created renamed draft time narrows rename_time only renames) sync_time
-      (λ c now. old_or_draft created renamed draft narrows only renames c (syncs c now))
+    -- the folder is synced
+    pub after_folder : (synced : F) → PassesTime model renamed synced
+        → Narrows (model.may_leave renamed) (model.may_leave synced)
+        → LeavesOnly model old synced OldOrNew
+    after_folder synced sync_time syncs =
+        then_call model old renamed synced OldOrNew after_rename sync_time
+        (λ c now. old_or_draft c (syncs c now))
 
 -- the sync of the folder settles a text
 pub settle_named : {F T E : Type 0} (model : FileModel F) (r : Result T E) (renamed synced : F)

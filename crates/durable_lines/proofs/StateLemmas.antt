@@ -200,11 +200,10 @@ pub cut_left : (len : ℕ) (old new : State) → new ≡ after_cut len old
 cut_left len old new is =
     subst (λ s. Follows (TornCut len) (IsLeft old) (IsLeft s)) (sym is) (cut_follows len old)
 
-pub cut_none : (len : ℕ) (old new : State) → new ≡ old
-    → Follows (TornCut len) (IsLeft old) (IsLeft new)
-cut_none len old new is =
-    subst (λ s. Follows (TornCut len) (IsLeft old) (IsLeft s)) (sym is)
-    (same_cuts len (IsLeft old))
+pub cut_none : {S : Type 0} (left : S → List ℕ → Type 0) (len : ℕ) (old new : S) → new ≡ old
+    → Follows (TornCut len) (left old) (left new)
+cut_none left len old new is =
+    subst (λ s. Follows (TornCut len) (left old) (left s)) (sym is) (same_cuts len (left old))
 
 pub cut_seen : (len : ℕ) (old new : State) → new ≡ after_cut len old
     → old.kept ≤ length old.synced → seen_of new ≡ take len (seen_of old)

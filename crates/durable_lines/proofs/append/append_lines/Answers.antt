@@ -13,8 +13,8 @@ returns-in_err-append-clause-any_moment g c acts =
 
 pub returns-clause-any_moment : goal.returns-clause-any_moment
 returns-clause-any_moment g c acts =
-    after_sync g.F.DurableFile.model c.args.file.now c.args.text.now (c.requires.settled acts) _ _
-    c.append.ensures.call.time c.append.ensures.crash c.sync.ensures.call.time
+    after_sync g.F.DurableFile.model c.args.file.now c.args.text.now (c.requires.settled acts) _
+    c.append.ensures.call.time c.append.ensures.crash _ c.sync.ensures.call.time
     c.sync.ensures.crash
 
 pub returns-clause-lines : goal.returns-clause-lines

@@ -1,50 +1,34 @@
 use Rattle.std.proofs.Common.{length, take, sym, ◌∙◌, ap, subst}
 use Rattle.durable_lines.specs.Lines.{lines_in, text_of, IsText}
 use Rattle.durable_lines.proofs.LineLemmas.{lines_in-same}
-use Rattle.durable_lines.proofs.RecoveryLemmas.{after_sync, after_read, after_cut, after_resync}
-use Rattle.durable_lines.proofs.RecoveryLemmas.{cut_text, lines_text}
+use Rattle.durable_lines.proofs.RecoveryLemmas.{after_cut, after_resync, cut_text, lines_text}
 use Rattle.durable_lines.proofs.SyncLemmas.{settle}
 use Rattle.durable_lines.proofs.recovery.recover.Goals as goal
 
 pub returns-in_err-cut-clause-any_moment : goal.returns-in_err-cut-clause-any_moment
 returns-in_err-cut-clause-any_moment g c acts =
-    let model = g.F.DurableFile.model in
-    let old = c.args.file.now in
-    let synced = after_sync model old _ c.sync.ensures.call.time c.sync.ensures.crash in
-    let read = after_read model old _ _ synced c.read.ensures.call.time c.sync.ensures.crash
-    c.read.ensures.crash in
-    let bytes = c.deref.ensures.value ∙ c.in_ok-text.ensures.bytes acts
-    ∙ c.in_ok-sync.ensures.unchanged in
-    after_cut model old _ _ _ read c.cut.ensures.call.time
-    (c.whole_len-len.ensures.len ∙ ap (λ l. length (text_of (lines_in l))) bytes)
-    (λ f now. c.in_ok-sync.ensures.durable f (c.read.ensures.crash f now)) c.cut.ensures.crash
+    after_cut g.F.DurableFile.model c.args.file.now _ c.sync.ensures.call.time c.sync.ensures.crash _
+    c.read.ensures.call.time c.read.ensures.crash c.whole_len-len.result _
+    (c.whole_len-len.ensures.len ∙ ap (λ l. length (text_of (lines_in l)))
+    (c.deref.ensures.value ∙ c.in_ok-text.ensures.bytes acts ∙ c.in_ok-sync.ensures.unchanged))
+    c.in_ok-sync.ensures.durable c.cut.ensures.call.time c.cut.ensures.crash
 
 pub returns-in_err-sync-2-clause-any_moment : goal.returns-in_err-sync-2-clause-any_moment
 returns-in_err-sync-2-clause-any_moment g c acts =
-    let model = g.F.DurableFile.model in
-    let old = c.args.file.now in
-    let synced = after_sync model old _ c.sync.ensures.call.time c.sync.ensures.crash in
-    let read = after_read model old _ _ synced c.read.ensures.call.time c.sync.ensures.crash
-    c.read.ensures.crash in
-    let bytes = c.deref.ensures.value ∙ c.in_ok-text.ensures.bytes acts
-    ∙ c.in_ok-sync.ensures.unchanged in
-    after_resync model old _ _ _ _ read c.cut.ensures.call.time
-    (c.whole_len-len.ensures.len ∙ ap (λ l. length (text_of (lines_in l))) bytes)
-    (λ f now. c.in_ok-sync.ensures.durable f (c.read.ensures.crash f now)) c.cut.ensures.crash
+    after_resync g.F.DurableFile.model c.args.file.now _ c.sync.ensures.call.time c.sync.ensures.crash _
+    c.read.ensures.call.time c.read.ensures.crash c.whole_len-len.result _
+    (c.whole_len-len.ensures.len ∙ ap (λ l. length (text_of (lines_in l)))
+    (c.deref.ensures.value ∙ c.in_ok-text.ensures.bytes acts ∙ c.in_ok-sync.ensures.unchanged))
+    c.in_ok-sync.ensures.durable c.cut.ensures.call.time c.cut.ensures.crash _
     c.sync-2.ensures.call.time c.sync-2.ensures.crash
 
 pub returns-clause-any_moment : goal.returns-clause-any_moment
 returns-clause-any_moment g c acts =
-    let model = g.F.DurableFile.model in
-    let old = c.args.file.now in
-    let synced = after_sync model old _ c.sync.ensures.call.time c.sync.ensures.crash in
-    let read = after_read model old _ _ synced c.read.ensures.call.time c.sync.ensures.crash
-    c.read.ensures.crash in
-    let bytes = c.deref.ensures.value ∙ c.in_ok-text.ensures.bytes acts
-    ∙ c.in_ok-sync.ensures.unchanged in
-    after_resync model old _ _ _ _ read c.cut.ensures.call.time
-    (c.whole_len-len.ensures.len ∙ ap (λ l. length (text_of (lines_in l))) bytes)
-    (λ f now. c.in_ok-sync.ensures.durable f (c.read.ensures.crash f now)) c.cut.ensures.crash
+    after_resync g.F.DurableFile.model c.args.file.now _ c.sync.ensures.call.time c.sync.ensures.crash _
+    c.read.ensures.call.time c.read.ensures.crash c.whole_len-len.result _
+    (c.whole_len-len.ensures.len ∙ ap (λ l. length (text_of (lines_in l)))
+    (c.deref.ensures.value ∙ c.in_ok-text.ensures.bytes acts ∙ c.in_ok-sync.ensures.unchanged))
+    c.in_ok-sync.ensures.durable c.cut.ensures.call.time c.cut.ensures.crash _
     c.sync-2.ensures.call.time c.sync-2.ensures.crash
 
 pub returns-clause-text : goal.returns-clause-text

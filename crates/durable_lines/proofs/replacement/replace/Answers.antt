@@ -6,19 +6,19 @@ use Rattle.durable_lines.proofs.replacement.replace.Goals as goal
 
 pub returns-in_err-rename-clause-any_moment : goal.returns-in_err-rename-clause-any_moment
 returns-in_err-rename-clause-any_moment g c acts =
-    after_rename g.P.DurableFile.model c.args.place.now c.args.bytes.now _ _ _
-    c.create_draft.ensures.call.time c.create_draft.ensures.crash c.rename.ensures.call.time
+    after_rename g.P.DurableFile.model c.args.place.now c.args.bytes.now _
+    c.create_draft.ensures.call.time c.create_draft.ensures.crash _ _ c.rename.ensures.call.time
     (draft_outcome _ _ _ _ c.in_ok-draft.ensures.empty
     (c.in_ok-append.ensures.written (g.met.P.Place.drafts_act acts))
     c.in_ok-sync.ensures.durable) c.rename.ensures.crash
 
 pub returns-clause-any_moment : goal.returns-clause-any_moment
 returns-clause-any_moment g c acts =
-    after_folder g.P.DurableFile.model c.args.place.now c.args.bytes.now _ _ _ _
-    c.create_draft.ensures.call.time c.create_draft.ensures.crash c.rename.ensures.call.time
+    after_folder g.P.DurableFile.model c.args.place.now c.args.bytes.now _
+    c.create_draft.ensures.call.time c.create_draft.ensures.crash _ _ c.rename.ensures.call.time
     (draft_outcome _ _ _ _ c.in_ok-draft.ensures.empty
     (c.in_ok-append.ensures.written (g.met.P.Place.drafts_act acts))
-    c.in_ok-sync.ensures.durable) c.rename.ensures.crash c.sync_folder.ensures.call.time
+    c.in_ok-sync.ensures.durable) c.rename.ensures.crash _ c.sync_folder.ensures.call.time
     c.sync_folder.ensures.crash
 
 pub returns-clause-bytes : goal.returns-clause-bytes
