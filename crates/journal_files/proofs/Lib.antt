@@ -1,4 +1,3 @@
-pub mod Crashes
 pub mod FaultLemmas
 pub mod RenewalLemmas
 pub mod Restarts

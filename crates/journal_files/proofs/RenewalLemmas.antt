@@ -2,12 +2,12 @@
 use Rattle.std.proofs.Common.{◌≡◌, ◌⊎◌, inl, inr, ⊎_elim, ℕ, ◌-◌, List, [], ◌∷◌, Result, Ok, length}
 use Rattle.std.proofs.Common.{refl, ap, sym, ◌∙◌, subst}
 use Rattle.std.proofs.lemmas.List.{take-append-drop}
-use Rattle.durable_lines.specs.CrashModel.{Elapses, LeavesOnly, Narrows}
+use Rattle.durable_lines.specs.CrashModel.{LeavesOnly, Narrows, PassesTime}
+use Rattle.durable_lines.specs.FileModel.{FileModel}
 use Rattle.durable_lines.specs.Holding.{IsSameOrRenewed}
-use Rattle.durable_lines.specs.Lines.{IsSettled, IsText}
-use Rattle.durable_lines.proofs.Moments.{begin, elapses_still, leaves_as, leaves_then}
-use Rattle.durable_lines.proofs.Moments.{then_call}
-use Rattle.durable_lines.proofs.PlaceLemmas.{same_appends, same_cuts}
+use Rattle.durable_lines.specs.Lines.{lines_in, IsSettled, IsText}
+use Rattle.durable_lines.proofs.Moments.{elapses_still, leaves_as, leaves_then, one_call}
+use Rattle.durable_lines.proofs.StateLemmas.{same_appends, same_cuts}
 use Rattle.relay_core.proofs.AgreeingEvents.{event_alike}
 use Rattle.relay_core.proofs.RunLemmas.{world_after-append}
 use Rattle.relay_core.specs.Agreeing.{Agree, IsWorld}
@@ -125,119 +125,112 @@ renewed_answers depth old new device before after renewal from_old from_new =
 
 -- ---- the file of a journal that is renewed
 
-module _ {F : Type 0} (seen : F → List ℕ) (may_leave : F → List ℕ → Type 0)
-    (identity : F → ℕ) (stored : ℕ → List ℕ → Type 0) (moment : F → ℕ)
-    (left_since : F → ℕ → List ℕ → Type 0) where
-  abbrev Renewed : List ℕ → List ℕ → Type 0
-  Renewed = IsSameOrRenewed IsRenewedAs
+-- the bytes that replace a journal
+renewed_as : (depth : ℕ) (old new : List ℕ) → IsText old → IsRenewalOf depth old new → IsText new
+    → IsRenewedAs old new
+renewed_as depth old new old_text renewal new_text =
+    record { depth = depth; renewal = renewal; old_text = old_text; new_text = new_text }
 
-  -- a call that changes nothing
-  abbrev pub IsReading : F → F → Type 0
-  IsReading old new = Elapses (moment old) (moment new) (left_since old) (left_since new)
-      (may_leave new)
+abbrev Renewed : List ℕ → List ℕ → Type 0
+Renewed = IsSameOrRenewed IsRenewedAs
 
+module _ {F : Type 0} (model : FileModel F) where
   -- the file was read, and stays
-  pub read_leaves : (old new : F) → IsSettled seen may_leave identity stored old
-      → ((c : List ℕ) → left_since old (moment old) c → may_leave old c) → IsReading old new
-      → Narrows (may_leave old) (may_leave new)
-      → LeavesOnly moment left_since old new (Renewed (seen old))
-  read_leaves old new settled only_now time narrows =
-      then_call moment left_since old old new (Renewed (seen old)) (may_leave new)
-      (begin moment left_since old (Renewed (seen old)) (may_leave old) only_now
-      (λ c now. inl (settled.durable c now)))
-      time (λ c now. inl (settled.durable c (narrows c now)))
+  pub read_leaves : (old new : F) → IsSettled model old → PassesTime model old new
+      → Narrows (model.may_leave old) (model.may_leave new)
+      → LeavesOnly model old new (Renewed (model.seen old))
+  read_leaves old new settled time narrows =
+      one_call model old new (Renewed (model.seen old)) (λ c now. inl (settled.durable c now)) time
+      (λ c now. inl (settled.durable c (narrows c now)))
 
   -- a file that was read is settled
-  pub read_settled : (old new : F) → IsSettled seen may_leave identity stored old
-      → seen new ≡ seen old → Narrows (may_leave old) (may_leave new)
-      → identity new ≡ identity old → IsSettled seen may_leave identity stored new
+  pub read_settled : (old new : F) → IsSettled model old → model.seen new ≡ model.seen old
+      → Narrows (model.may_leave old) (model.may_leave new)
+      → model.identity new ≡ model.identity old → IsSettled model new
   read_settled old new settled same narrows one = record {
     text = subst IsText (sym same) settled.text;
     durable = λ c now. settled.durable c (narrows c now) ∙ sym same;
-    kept = subst (λ (n : ℕ). stored n (seen new)) (sym one)
-        (subst (stored (identity old)) (sym same) settled.kept);
+    kept = subst (λ (n : ℕ). model.stored n (model.seen new)) (sym one)
+        (subst (model.stored (model.identity old)) (sym same) settled.kept);
   }
 
-  -- the bytes that replace a journal
-  pub renewed_as : (depth : ℕ) (old new : List ℕ) → IsText old → IsRenewalOf depth old new
-      → IsText new → IsRenewedAs old new
-  renewed_as depth old new old_text renewal new_text =
-      record { depth = depth; renewal = renewal; old_text = old_text; new_text = new_text }
-
   -- the file was replaced
-  pub replaced_as : (depth : ℕ) (old new : F) (text : List ℕ)
-      → IsSettled seen may_leave identity stored old → IsRenewalOf depth (seen old) text
-      → IsText text
-      → seen new ≡ text → Renewed (seen old) (seen new)
+  pub replaced_as : (depth : ℕ) (old new : F) (text : List ℕ) → IsSettled model old
+      → IsRenewalOf depth (model.seen old) text → IsText text → model.seen new ≡ text
+      → Renewed (model.seen old) (model.seen new)
   replaced_as depth old new text settled renewal is_text is =
-      inr (subst (λ (bytes : List ℕ). IsRenewedAs (seen old) bytes) (sym is)
-      (renewed_as depth (seen old) text settled.text renewal is_text))
+      inr (subst (λ (bytes : List ℕ). IsRenewedAs (model.seen old) bytes) (sym is)
+      (renewed_as depth (model.seen old) text settled.text renewal is_text))
 
   -- the file was read and then replaced
-  pub replaced_leaves : (old mid new : F) (depth : ℕ) (text : List ℕ)
-      → IsSettled seen may_leave identity stored old
-      → ((c : List ℕ) → left_since old (moment old) c → may_leave old c) → IsReading old mid
-      → Narrows (may_leave old) (may_leave mid) → IsRenewalOf depth (seen old) text → IsText text
-      → LeavesOnly moment left_since mid new (λ c. may_leave mid c ⊎ (c ≡ text))
-      → LeavesOnly moment left_since old new (Renewed (seen old))
-  replaced_leaves old mid new depth text settled only_now time narrows renewal is_text replaces =
-      leaves_then moment left_since old mid new (Renewed (seen old))
-      (read_leaves old mid settled only_now time narrows)
-      (leaves_as moment left_since mid new (λ c. may_leave mid c ⊎ (c ≡ text))
-      (Renewed (seen old))
+  pub replaced_leaves : (old mid new : F) (depth : ℕ) (text : List ℕ) → IsSettled model old
+      → PassesTime model old mid → Narrows (model.may_leave old) (model.may_leave mid)
+      → IsRenewalOf depth (model.seen old) text → IsText text
+      → LeavesOnly model mid new (λ c. model.may_leave mid c ⊎ (c ≡ text))
+      → LeavesOnly model old new (Renewed (model.seen old))
+  replaced_leaves old mid new depth text settled time narrows renewal is_text replaces =
+      leaves_then model old mid new (Renewed (model.seen old))
+      (read_leaves old mid settled time narrows)
+      (leaves_as model mid new (λ c. model.may_leave mid c ⊎ (c ≡ text))
+      (Renewed (model.seen old))
       (λ c left. ⊎_elim (λ was. inl (settled.durable c (narrows c was)))
-      (λ is. inr (subst (λ (bytes : List ℕ). IsRenewedAs (seen old) bytes) (sym is)
-      (renewed_as depth (seen old) text settled.text renewal is_text))) left)
+      (λ is. inr (subst (λ (bytes : List ℕ). IsRenewedAs (model.seen old) bytes) (sym is)
+      (renewed_as depth (model.seen old) text settled.text renewal is_text))) left)
       replaces)
 
   -- the file was read
-  pub read_stays : (old new : F) (Q : List ℕ → Type 0)
-      → ((c : List ℕ) → left_since old (moment old) c → may_leave old c) → IsReading old new
-      → Narrows (may_leave old) (may_leave new)
-      → LeavesOnly moment left_since old new (λ c. may_leave old c ⊎ Q c)
-  read_stays old new Q only_now time narrows =
-      then_call moment left_since old old new (λ c. may_leave old c ⊎ Q c) (may_leave new)
-      (begin moment left_since old (λ c. may_leave old c ⊎ Q c) (may_leave old) only_now
-      (λ c now. inl now))
-      time (λ c now. inl (narrows c now))
+  pub read_stays : (old new : F) (Q : List ℕ → Type 0) → PassesTime model old new
+      → Narrows (model.may_leave old) (model.may_leave new)
+      → LeavesOnly model old new (λ c. model.may_leave old c ⊎ Q c)
+  read_stays old new Q time narrows =
+      one_call model old new (λ c. model.may_leave old c ⊎ Q c) (λ c now. inl now) time
+      (λ c now. inl (narrows c now))
 
   -- the file was read, and then more was done
-  read_then : (old mid new : F) (P Q : List ℕ → Type 0)
-      → ((c : List ℕ) → left_since old (moment old) c → may_leave old c) → IsReading old mid
-      → Narrows (may_leave old) (may_leave mid) → ((c : List ℕ) → P c → Q c)
-      → LeavesOnly moment left_since mid new (λ c. may_leave mid c ⊎ P c)
-      → LeavesOnly moment left_since old new (λ c. may_leave old c ⊎ Q c)
-  read_then old mid new P Q only_now time narrows weaker leaves =
-      leaves_then moment left_since old mid new (λ c. may_leave old c ⊎ Q c)
-      (read_stays old mid Q only_now time narrows)
-      (leaves_as moment left_since mid new (λ c. may_leave mid c ⊎ P c)
-      (λ c. may_leave old c ⊎ Q c)
+  read_then : (old mid new : F) (P Q : List ℕ → Type 0) → PassesTime model old mid
+      → Narrows (model.may_leave old) (model.may_leave mid) → ((c : List ℕ) → P c → Q c)
+      → LeavesOnly model mid new (λ c. model.may_leave mid c ⊎ P c)
+      → LeavesOnly model old new (λ c. model.may_leave old c ⊎ Q c)
+  read_then old mid new P Q time narrows weaker leaves =
+      leaves_then model old mid new (λ c. model.may_leave old c ⊎ Q c)
+      (read_stays old mid Q time narrows)
+      (leaves_as model mid new (λ c. model.may_leave mid c ⊎ P c)
+      (λ c. model.may_leave old c ⊎ Q c)
       (λ c left. ⊎_elim (λ was. inl (narrows c was)) (λ now. inr (weaker c now)) left) leaves)
 
   -- the file was read and then replaced by the text of its renewal
-  pub replaced_any : (depth : ℕ) (old mid new : F) (text : List ℕ)
-      → ((c : List ℕ) → left_since old (moment old) c → may_leave old c) → IsReading old mid
-      → Narrows (may_leave old) (may_leave mid) → IsRenewalOf depth (seen old) text
-      → LeavesOnly moment left_since mid new (λ c. may_leave mid c ⊎ (c ≡ text))
-      → LeavesOnly moment left_since old new
-      (λ c. may_leave old c ⊎ IsRenewalOf depth (seen old) c)
-  replaced_any depth old mid new text only_now time narrows renewal leaves =
-      read_then old mid new (λ c. c ≡ text) (IsRenewalOf depth (seen old)) only_now time narrows
-      (λ c is. subst (IsRenewalOf depth (seen old)) (sym is) renewal) leaves
+  pub replaced_any : (depth : ℕ) (old mid new : F) (text : List ℕ) → PassesTime model old mid
+      → Narrows (model.may_leave old) (model.may_leave mid)
+      → IsRenewalOf depth (model.seen old) text
+      → LeavesOnly model mid new (λ c. model.may_leave mid c ⊎ (c ≡ text))
+      → LeavesOnly model old new (λ c. model.may_leave old c ⊎ IsRenewalOf depth (model.seen old) c)
+  replaced_any depth old mid new text time narrows renewal leaves =
+      read_then old mid new (λ c. c ≡ text) (IsRenewalOf depth (model.seen old)) time narrows
+      (λ c is. subst (IsRenewalOf depth (model.seen old)) (sym is) renewal) leaves
 
   -- the file was read and then renewed
-  pub renewed_any : (depth : ℕ) (old mid new : F)
-      → ((c : List ℕ) → left_since old (moment old) c → may_leave old c) → IsReading old mid
-      → Narrows (may_leave old) (may_leave mid) → seen mid ≡ seen old
-      → LeavesOnly moment left_since mid new
-      (λ c. may_leave mid c ⊎ IsRenewalOf depth (seen mid) c)
-      → LeavesOnly moment left_since old new
-      (λ c. may_leave old c ⊎ IsRenewalOf depth (seen old) c)
-  renewed_any depth old mid new only_now time narrows same leaves =
-      read_then old mid new (IsRenewalOf depth (seen mid)) (IsRenewalOf depth (seen old)) only_now
-      time narrows (λ c is. subst (λ (bytes : List ℕ). IsRenewalOf depth bytes c) same is) leaves
+  pub renewed_any : (depth : ℕ) (old mid new : F) → PassesTime model old mid
+      → Narrows (model.may_leave old) (model.may_leave mid) → model.seen mid ≡ model.seen old
+      → LeavesOnly model mid new (λ c. model.may_leave mid c ⊎ IsRenewalOf depth (model.seen mid) c)
+      → LeavesOnly model old new (λ c. model.may_leave old c ⊎ IsRenewalOf depth (model.seen old) c)
+  renewed_any depth old mid new time narrows same leaves =
+      read_then old mid new (IsRenewalOf depth (model.seen mid))
+      (IsRenewalOf depth (model.seen old)) time narrows
+      (λ c is. subst (λ (bytes : List ℕ). IsRenewalOf depth bytes c) same is) leaves
 
-pub ruleset file_renewals = (read_leaves, read_settled, replaced_as, replaced_leaves)
+  -- the file was read and then recovered
+  pub recovered_any : (old mid new : F) → PassesTime model old mid
+      → Narrows (model.may_leave old) (model.may_leave mid) → model.seen mid ≡ model.seen old
+      → LeavesOnly model mid new
+      (λ c. model.may_leave mid c ⊎ (lines_in c ≡ lines_in (model.seen mid)))
+      → LeavesOnly model old new
+      (λ c. model.may_leave old c ⊎ (lines_in c ≡ lines_in (model.seen old)))
+  recovered_any old mid new time narrows same leaves =
+      read_then old mid new (λ c. lines_in c ≡ lines_in (model.seen mid))
+      (λ c. lines_in c ≡ lines_in (model.seen old)) time narrows
+      (λ c lines. lines ∙ ap lines_in same) leaves
+
+pub ruleset file_renewals = (read_leaves, read_settled, replaced_as)
 
 pub ruleset renewals = (read_settled, read_stays)
 

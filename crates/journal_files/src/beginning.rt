@@ -2,7 +2,7 @@
 ghost use Rattle.std.specs.Prelude.{◌≡◌, ◌⊎◌, ℕ, List, IfErr, IfOk, IsErrOf, OnOk};
 ghost use Rattle.durable_lines.specs.Calls.{HasFailedPart, OverflowsDraft};
 ghost use Rattle.durable_lines.specs.CrashModel.{LeavesOnly};
-ghost use Rattle.durable_lines.specs.Lines.{IsSettled};
+ghost use Rattle.durable_lines.specs.Lines.{IsReady};
 ghost use Rattle.journal_files.specs.Faults.{IsBeginFault};
 ghost use Rattle.journal_files.specs.Journals.{IsBegun, IsJournalOf};
 
@@ -38,22 +38,20 @@ pub fn begin_journal<P: Place>(
     place: &mut P,
     recorder: &Recorder,
 ) -> Result<(), StartFault>
-    ensures journal { OnOk result (P.acts_as_file
-        → IsBegun recorder.now (P.seen place.new) (P.may_leave place.new)) }
-    ensures settled { OnOk result (P.acts_as_file
-        → IsSettled P.seen P.may_leave P.identity P.stored place.new) }
-    ensures identity { P.identity place.new ≡ P.identity place.old }
+    ensures journal { OnOk result (P.model.acts
+        → IsBegun recorder.now (P.model.seen place.new) (P.model.may_leave place.new)) }
+    ensures settled { OnOk result (IsReady P.model place.new) }
+    ensures identity { P.model.identity place.new ≡ P.model.identity place.old }
     ensures cause { IfErr result (IsBeginFault recorder.now) }
     ensures failed { IsErrOf result StartFault.File
-        → HasFailedPart P.has_failed P.Draft.seen P.Draft.may_leave P.Draft.has_failed
+        → HasFailedPart P.model P.Draft.model
         (IsJournalOf recorder.now) place.new }
     ensures too_long { IsErrOf result StartFault.TooLong → (text : List ℕ)
         × IsJournalOf recorder.now text
-        × OverflowsDraft P.Draft.seen P.Draft.overflows text }
+        × OverflowsDraft P.Draft.model text }
     // A crash at any moment of the call leaves what could be left before, or the new journal.
-    ensures any_moment { P.acts_as_file
-        → LeavesOnly P.moment P.left_since place.old place.new
-        (λ c. P.may_leave place.old c ⊎ IsJournalOf recorder.now c) }
+    ensures any_moment { P.model.acts → LeavesOnly P.model place.old place.new
+        (λ c. P.model.may_leave place.old c ⊎ IsJournalOf recorder.now c) }
 {
     let text = journal_of(alloc, recorder)?;
     if !is_text(text.as_slice()) {

@@ -1,10 +1,11 @@
 //! `RenewedFile`: the file of a journal that is renewed each time it has grown by a limit.
-ghost use Rattle.std.specs.Prelude.{◌≡◌, None, OnOk, IsErrOf};
+ghost use Rattle.std.specs.Prelude.{◌≡◌, None, OnOk};
+ghost use Rattle.durable_lines.specs.Calls.{IsSameFile};
 ghost use Rattle.durable_lines.specs.CrashModel.{LeavesOnly};
 ghost use Rattle.durable_lines.specs.Holding.{IsSameOrRenewed};
-ghost use Rattle.durable_lines.specs.Lines.{IsSettled};
-ghost use Rattle.journal_files.specs.RenewedFile.{grown_of, held_back_of, place_of, terms_of};
-ghost use Rattle.journal_files.specs.RenewedFile.{GrowsBy, HasFailed, RenewsOnTerms};
+ghost use Rattle.durable_lines.specs.Lines.{IsReady};
+ghost use Rattle.journal_files.specs.RenewedFile.{grown_of, held_back_of, place_of, renewed_model};
+ghost use Rattle.journal_files.specs.RenewedFile.{terms_of, HasFailed, RenewsOnTerms};
 ghost use Rattle.journal_files.specs.Renewals.{IsRenewedAs};
 
 use crate::fault::StartFault;
@@ -75,31 +76,7 @@ impl<P: Place> RenewedFile<P> {
 }
 
 impl<P: Place> DurableFile for RenewedFile<P> {
-    ghost acts_as_file = { P.acts_as_file };
-
-    ghost identity = { λ file. P.identity file.place };
-
-    ghost seen = { λ file. P.seen file.place };
-
-    ghost may_leave = { λ file c. P.may_leave file.place c };
-
-    ghost moment = { λ file. P.moment file.place };
-
-    ghost left_since = { λ file t c. P.left_since file.place t c };
-
-    ghost stored = { P.stored };
-
-    ghost renews = { IsRenewedAs };
-
-    ghost has_failed = { HasFailed };
-
-    ghost overflows = { λ file bytes. P.overflows file.place bytes };
-
-    ghost also = { GrowsBy };
-
-    ghost counts_now = { λ file t c le now. P.counts_now file.place t c le now };
-
-    ghost only_now = { λ file c left. P.only_now file.place c left };
+    ghost model = { renewed_model P.model };
 
     #[tactic(auto, using(crate::proofs::RenewalLemmas::same_files))]
     fn read(&mut self, alloc: Global) -> Result<Vec<u8>, FileFault> {
@@ -139,19 +116,15 @@ impl<P: Place> DurableFile for RenewedFile<P> {
     }
 
     fn renew(&mut self) -> Result<(), FileFault>
-        requires { P.acts_as_file → IsSettled (λ f. P.seen (place_of f))
-            (λ f. P.may_leave (place_of f)) (λ f. P.identity (place_of f)) P.stored self.old }
-        ensures settled { OnOk result (P.acts_as_file → IsSettled (λ f. P.seen (place_of f))
-            (λ f. P.may_leave (place_of f)) (λ f. P.identity (place_of f)) P.stored self.new) }
-        ensures renewed { OnOk result (P.acts_as_file → IsSameOrRenewed IsRenewedAs
-            (P.seen (place_of self.old)) (P.seen (place_of self.new))) }
-        ensures on_terms { OnOk result (RenewsOnTerms P.acts_as_file P.seen self.old self.new) }
-        ensures any_moment { P.acts_as_file → LeavesOnly (λ f. P.moment (place_of f))
-            (λ f. P.left_since (place_of f)) self.old self.new
-            (IsSameOrRenewed IsRenewedAs (P.seen (place_of self.old))) }
-        ensures identity { P.identity (place_of self.new) ≡ P.identity (place_of self.old) }
-        ensures failed { IsErrOf result FileFault.Failed → HasFailed self.new }
-        ensures remains_failed { HasFailed self.old → HasFailed self.new }
+        requires { IsReady (renewed_model P.model) self.old }
+        ensures settled { OnOk result (IsReady (renewed_model P.model) self.new) }
+        ensures renewed { OnOk result (P.model.acts → IsSameOrRenewed IsRenewedAs
+            (P.model.seen (place_of self.old)) (P.model.seen (place_of self.new))) }
+        ensures on_terms { OnOk result (RenewsOnTerms P.model self.old self.new) }
+        ensures any_moment { P.model.acts
+            → LeavesOnly (renewed_model P.model) self.old self.new
+            (IsSameOrRenewed IsRenewedAs (P.model.seen (place_of self.old))) }
+        ensures same_file { IsSameFile (renewed_model P.model) self.old self.new result }
     {
         if self.has_failed {
             return Err(FileFault::Failed);

@@ -2,9 +2,9 @@
 ghost use Rattle.std.specs.Prelude.{◌≡◌, ◌≢◌, ◌⊎◌, ℕ, List, Ok, IfErr, IfOk, IsErrOf, IsTrue, OnOk};
 ghost use Rattle.std.specs.List.{All};
 ghost use Rattle.durable_lines.specs.Calls.{HasFailedPart};
-ghost use Rattle.durable_lines.specs.CrashModel.{Elapses, LeavesOnly, Narrows, HasOneOutcome};
+ghost use Rattle.durable_lines.specs.CrashModel.{LeavesOnly, Narrows, HasOneOutcome, PassesTime};
 ghost use Rattle.durable_lines.specs.Holding.{IsSameOrRenewed};
-ghost use Rattle.durable_lines.specs.Lines.{IsSettled, IsText};
+ghost use Rattle.durable_lines.specs.Lines.{IsReady, IsText};
 ghost use Rattle.journal_files.specs.Faults.{IsRenewFault, IsUnwritable};
 ghost use Rattle.journal_files.specs.RenewedFile.{IsRenewedUnless};
 ghost use Rattle.journal_files.specs.Renewals.{IsLaterTrace, IsRenewalOf, IsRenewedAs};
@@ -171,17 +171,16 @@ fn renew_text_of<F: DurableFile>(
     file: &mut F,
     depth: usize,
 ) -> Result<Octets, StartFault>
-    ensures renewed { IfOk result (λ text. F.acts_as_file
-        → IsRenewalOf depth (F.seen file.old) text) }
+    ensures renewed { IfOk result (λ text. F.model.acts
+        → IsRenewalOf depth (F.model.seen file.old) text) }
     ensures is_text { IfOk result IsText }
-    ensures cause { IfErr result (λ fault. F.acts_as_file
-        → IsRenewFault (F.seen file.old) fault) }
-    ensures failed { IsErrOf result StartFault.File → F.has_failed file.new }
-    ensures unchanged { F.seen file.new ≡ F.seen file.old }
-    ensures identity { F.identity file.new ≡ F.identity file.old }
-    ensures crash { Narrows (F.may_leave file.old) (F.may_leave file.new) }
-    ensures time { Elapses (F.moment file.old) (F.moment file.new) (F.left_since file.old)
-        (F.left_since file.new) (F.may_leave file.new) }
+    ensures cause { IfErr result (λ fault. F.model.acts
+        → IsRenewFault (F.model.seen file.old) fault) }
+    ensures failed { IsErrOf result StartFault.File → F.model.has_failed file.new }
+    ensures unchanged { F.model.seen file.new ≡ F.model.seen file.old }
+    ensures identity { F.model.identity file.new ≡ F.model.identity file.old }
+    ensures crash { Narrows (F.model.may_leave file.old) (F.model.may_leave file.new) }
+    ensures time { PassesTime F.model file.old file.new }
 {
     let bytes = file.read(alloc)?;
     let text = renew_text(alloc, bytes.as_slice(), depth);
@@ -201,24 +200,22 @@ fn renew_text_of<F: DurableFile>(
 /// a line has a byte 0, which no contract excludes; `OtherMeter` if the new one had another device
 /// name, which no contract excludes either; `Memory`. After an error the name has the old file or
 /// the new one.
-#[tactic(auto, using(crate::proofs::RenewalLemmas::read_stays, crate::proofs::FaultLemmas::renew_faults))]
+#[tactic(auto, using(crate::proofs::FaultLemmas::renew_faults))]
 pub fn renew_journal<P: Place>(alloc: Global, place: &mut P, depth: usize) -> Result<(), StartFault>
-    ensures renewed { OnOk result (P.acts_as_file
-        → IsRenewalOf depth (P.seen place.old) (P.seen place.new)) }
-    ensures durable { OnOk result (P.acts_as_file
-        → HasOneOutcome (P.seen place.new) (P.may_leave place.new)) }
-    ensures settled { OnOk result (P.acts_as_file
-        → IsSettled P.seen P.may_leave P.identity P.stored place.new) }
-    ensures identity { P.identity place.new ≡ P.identity place.old }
-    ensures cause { IfErr result (λ fault. P.acts_as_file
-        → IsRenewFault (P.seen place.old) fault) }
+    ensures renewed { OnOk result (P.model.acts
+        → IsRenewalOf depth (P.model.seen place.old) (P.model.seen place.new)) }
+    ensures durable { OnOk result (P.model.acts
+        → HasOneOutcome (P.model.seen place.new) (P.model.may_leave place.new)) }
+    ensures settled { OnOk result (IsReady P.model place.new) }
+    ensures identity { P.model.identity place.new ≡ P.model.identity place.old }
+    ensures cause { IfErr result (λ fault. P.model.acts
+        → IsRenewFault (P.model.seen place.old) fault) }
     ensures failed { IsErrOf result StartFault.File
-        → HasFailedPart P.has_failed P.Draft.seen P.Draft.may_leave P.Draft.has_failed
-        (λ text. P.acts_as_file → IsRenewalOf depth (P.seen place.old) text) place.new }
+        → HasFailedPart P.model P.Draft.model
+        (λ text. P.model.acts → IsRenewalOf depth (P.model.seen place.old) text) place.new }
     // A crash at any moment of the call leaves what could be left before, or the new journal.
-    ensures any_moment { P.acts_as_file
-        → LeavesOnly P.moment P.left_since place.old place.new
-        (λ c. P.may_leave place.old c ⊎ IsRenewalOf depth (P.seen place.old) c) }
+    ensures any_moment { P.model.acts → LeavesOnly P.model place.old place.new
+        (λ c. P.model.may_leave place.old c ⊎ IsRenewalOf depth (P.model.seen place.old) c) }
 {
     let text = renew_text_of(alloc, place, depth)?;
     Ok(replace(place, text.as_slice())?)
@@ -233,21 +230,19 @@ pub fn renew_long_journal<P: Place>(
     depth: usize,
     limit: usize,
 ) -> Result<(), StartFault>
-    requires { P.acts_as_file → IsSettled P.seen P.may_leave P.identity P.stored place.old }
-    ensures renewed { OnOk result (P.acts_as_file
-        → IsRenewedOver limit depth (P.seen place.old) (P.seen place.new)) }
-    ensures settled { OnOk result (P.acts_as_file
-        → IsSettled P.seen P.may_leave P.identity P.stored place.new) }
-    ensures identity { P.identity place.new ≡ P.identity place.old }
-    ensures cause { IfErr result (λ fault. P.acts_as_file
-        → IsRenewFault (P.seen place.old) fault) }
+    requires { IsReady P.model place.old }
+    ensures renewed { OnOk result (P.model.acts
+        → IsRenewedOver limit depth (P.model.seen place.old) (P.model.seen place.new)) }
+    ensures settled { OnOk result (IsReady P.model place.new) }
+    ensures identity { P.model.identity place.new ≡ P.model.identity place.old }
+    ensures cause { IfErr result (λ fault. P.model.acts
+        → IsRenewFault (P.model.seen place.old) fault) }
     ensures failed { IsErrOf result StartFault.File
-        → HasFailedPart P.has_failed P.Draft.seen P.Draft.may_leave P.Draft.has_failed
-        (λ text. P.acts_as_file → IsRenewalOf depth (P.seen place.old) text) place.new }
+        → HasFailedPart P.model P.Draft.model
+        (λ text. P.model.acts → IsRenewalOf depth (P.model.seen place.old) text) place.new }
     // A crash at any moment of the call leaves what could be left before, or the new journal.
-    ensures any_moment { P.acts_as_file
-        → LeavesOnly P.moment P.left_since place.old place.new
-        (λ c. P.may_leave place.old c ⊎ IsRenewalOf depth (P.seen place.old) c) }
+    ensures any_moment { P.model.acts → LeavesOnly P.model place.old place.new
+        (λ c. P.model.may_leave place.old c ⊎ IsRenewalOf depth (P.model.seen place.old) c) }
 {
     let bytes = place.read(alloc)?;
     let len = bytes.len();
@@ -267,17 +262,16 @@ pub(crate) fn renew_file<P: Place>(
     place: &mut P,
     depth: usize,
 ) -> Result<Option<StartFault>, FileFault>
-    requires { P.acts_as_file → IsSettled P.seen P.may_leave P.identity P.stored place.old }
-    ensures settled { OnOk result (P.acts_as_file
-        → IsSettled P.seen P.may_leave P.identity P.stored place.new) }
-    ensures renewed { OnOk result (P.acts_as_file
-        → IsSameOrRenewed IsRenewedAs (P.seen place.old) (P.seen place.new)) }
-    ensures outcome { IfOk result (λ held_back. P.acts_as_file
-        → IsRenewedUnless depth held_back (P.seen place.old) (P.seen place.new)) }
-    ensures identity { P.identity place.new ≡ P.identity place.old }
+    requires { IsReady P.model place.old }
+    ensures settled { OnOk result (IsReady P.model place.new) }
+    ensures renewed { OnOk result (P.model.acts
+        → IsSameOrRenewed IsRenewedAs (P.model.seen place.old) (P.model.seen place.new)) }
+    ensures outcome { IfOk result (λ held_back. P.model.acts
+        → IsRenewedUnless depth held_back (P.model.seen place.old) (P.model.seen place.new)) }
+    ensures identity { P.model.identity place.new ≡ P.model.identity place.old }
     // A crash at any moment of the call leaves the old journal or the new one.
-    ensures any_moment { P.acts_as_file → LeavesOnly P.moment P.left_since place.old place.new
-        (IsSameOrRenewed IsRenewedAs (P.seen place.old)) }
+    ensures any_moment { P.model.acts → LeavesOnly P.model place.old place.new
+        (IsSameOrRenewed IsRenewedAs (P.model.seen place.old)) }
 {
     match renew_text_of(alloc, place, depth) {
         Ok(text) => {

@@ -2,7 +2,7 @@
 ghost use Rattle.std.specs.Prelude.{◌≡◌, ◌≢◌, ◌+◌, ◌⊎◌, [], Ok, IfOk, IfErr, OnOk, IsErrOf};
 ghost use Rattle.std.specs.Prelude.{length};
 ghost use Rattle.durable_lines.specs.CrashModel.{LeavesOnly};
-ghost use Rattle.durable_lines.specs.Lines.{HasLinesAfterDamage, IsSettled, lines_in, text_of};
+ghost use Rattle.durable_lines.specs.Lines.{HasLinesAfterDamage, IsReady, lines_in, text_of};
 ghost use Rattle.journal_files.specs.Faults.{IsRefusal, IsResumeFault};
 ghost use Rattle.journal_files.specs.Journals.{Continues};
 ghost use Rattle.relay_core.specs.Opening.{IsFitOpening};
@@ -62,7 +62,7 @@ fn judge_trace(alloc: Global, text: &[u8], device: &Octets) -> Result<Trace, Sta
 /// the first line that is not that of a trace; `Counted`; `OtherMeter`; `Damaged` if whole lines
 /// follow a damaged one. After these the file is as it was, unless a call failed after the text was
 /// found right. `Memory` can occur at any point. A crash during the call loses no line.
-#[tactic(auto, using(crate::proofs::FaultLemmas::resume_faults))]
+#[tactic(auto, using(crate::proofs::RenewalLemmas::read_stays, crate::proofs::FaultLemmas::resume_faults))]
 pub fn resume_journal<F: DurableFile>(
     alloc: Global,
     file: &mut F,
@@ -72,26 +72,25 @@ pub fn resume_journal<F: DurableFile>(
     requires { IsCapacity depth }
     ensures empty { IfOk result (λ resumed. resumed.recorder.events ≡ []) }
     ensures capacity { IfOk result (λ resumed. resumed.recorder.capacity ≡ depth) }
-    ensures continues { IfOk result (λ resumed. F.acts_as_file
-        → Continues device.now (F.seen file.old) resumed.recorder) }
-    ensures cause { IfErr result (λ fault. F.acts_as_file
-        → IsResumeFault device.now (F.seen file.old) fault) }
-    ensures failed { IsErrOf result StartFault.File → F.has_failed file.new }
+    ensures continues { IfOk result (λ resumed. F.model.acts
+        → Continues device.now (F.model.seen file.old) resumed.recorder) }
+    ensures cause { IfErr result (λ fault. F.model.acts
+        → IsResumeFault device.now (F.model.seen file.old) fault) }
+    ensures failed { IsErrOf result StartFault.File → F.model.has_failed file.new }
     ensures refused { IfErr result (λ fault. IsRefusal fault
-        → F.seen file.new ≡ F.seen file.old) }
+        → F.model.seen file.new ≡ F.model.seen file.old) }
     // At most one line ends in what is cut.
-    ensures cut { OnOk result (F.acts_as_file → ¬ HasLinesAfterDamage (F.seen file.old)) }
-    ensures seen { OnOk result (F.acts_as_file
-        → F.seen file.new ≡ text_of (lines_in (F.seen file.old))) }
-    ensures count { IfOk result (λ resumed. F.acts_as_file
-        → length (text_of (lines_in (F.seen file.old))) + resumed.cut
-        ≡ length (F.seen file.old)) }
-    ensures settled { OnOk result (F.acts_as_file
-        → IsSettled F.seen F.may_leave F.identity F.stored file.new) }
+    ensures cut { OnOk result (F.model.acts → ¬ HasLinesAfterDamage (F.model.seen file.old)) }
+    ensures seen { OnOk result (F.model.acts
+        → F.model.seen file.new ≡ text_of (lines_in (F.model.seen file.old))) }
+    ensures count { IfOk result (λ resumed. F.model.acts
+        → length (text_of (lines_in (F.model.seen file.old))) + resumed.cut
+        ≡ length (F.model.seen file.old)) }
+    ensures settled { OnOk result (IsReady F.model file.new) }
     // A crash at any moment of the call leaves the same lines, or what it could have left before.
-    ensures any_moment { F.acts_as_file → LeavesOnly F.moment F.left_since file.old file.new
-        (λ c. F.may_leave file.old c ⊎ (lines_in c ≡ lines_in (F.seen file.old))) }
-    ensures identity { F.identity file.new ≡ F.identity file.old }
+    ensures any_moment { F.model.acts → LeavesOnly F.model file.old file.new
+        (λ c. F.model.may_leave file.old c ⊎ (lines_in c ≡ lines_in (F.model.seen file.old))) }
+    ensures identity { F.model.identity file.new ≡ F.model.identity file.old }
 {
     let bytes = file.read(alloc)?;
     let judged = judge_trace(alloc, bytes.as_slice(), device);

@@ -1,11 +1,12 @@
-use Rattle.journal_files.proofs.RenewalLemmas.{renewed_any}
+use Rattle.journal_files.proofs.RenewalLemmas.{read_stays, renewed_any}
 use Rattle.journal_files.proofs.renewing.renew_long_journal.Goals as goal
+
+pub returns-in_err-bytes-clause-any_moment : goal.returns-in_err-bytes-clause-any_moment
+returns-in_err-bytes-clause-any_moment g c acts =
+    read_stays g.P.DurableFile.model c.args.place.now _ _ c.read.ensures.call.time
+    c.read.ensures.crash
 
 pub returns-clause-any_moment : goal.returns-clause-any_moment
 returns-clause-any_moment g c acts =
-    let D = g.P.DurableFile in
-    let old = c.args.place.now in
-    renewed_any D.seen D.may_leave D.identity D.stored D.moment D.left_since c.args.depth old
-    c.read.new.self
-    c.renew_journal.new.place (g.met.P.DurableFile.only_now old) c.read.ensures.time
-    c.read.ensures.crash c.in_ok-bytes.ensures.unchanged (c.renew_journal.ensures.any_moment acts)
+    renewed_any g.P.DurableFile.model c.args.depth c.args.place.now _ _ c.read.ensures.call.time
+    c.read.ensures.crash c.read.ensures.unchanged (c.renew_journal.ensures.any_moment acts)
