@@ -30,9 +30,8 @@ module _ {F : Type 0} (model : FileModel F) (old : F) (bytes : List ℕ) (create
       one_call model old created OldOrNew (λ c now. inl now) time (λ c now. inl (narrows c now))
 
   module _ (renamed : F) (draft : List ℕ → Type 0) (rename_time : PassesTime model created renamed)
-      (only : HasOneOutcome bytes draft)
-      (renames : (c : List ℕ) → model.may_leave renamed c → model.may_leave created c ⊎ draft c)
-      where
+      (only : HasOneOutcome bytes draft) (renames : (c : List ℕ) → model.may_leave renamed c
+      → model.may_leave created c ⊎ draft c) where
     -- a crash after the rename leaves the old file or the draft
     old_or_draft : (c : List ℕ) → model.may_leave renamed c → OldOrNew c
     old_or_draft c now =

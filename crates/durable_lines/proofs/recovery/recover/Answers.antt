@@ -7,16 +7,16 @@ use Rattle.durable_lines.proofs.recovery.recover.Goals as goal
 
 pub returns-in_err-cut-clause-any_moment : goal.returns-in_err-cut-clause-any_moment
 returns-in_err-cut-clause-any_moment g c acts =
-    after_cut g.F.DurableFile.model c.args.file.now _ c.sync.ensures.call.time c.sync.ensures.crash _
-    c.read.ensures.call.time c.read.ensures.crash c.whole_len-len.result _
+    after_cut g.F.DurableFile.model c.args.file.now _ c.sync.ensures.call.time
+    c.sync.ensures.crash _ c.read.ensures.call.time c.read.ensures.crash c.whole_len-len.result _
     (c.whole_len-len.ensures.len ∙ ap (λ l. length (text_of (lines_in l)))
     (c.deref.ensures.value ∙ c.in_ok-text.ensures.bytes acts ∙ c.in_ok-sync.ensures.unchanged))
     c.in_ok-sync.ensures.durable c.cut.ensures.call.time c.cut.ensures.crash
 
 pub returns-in_err-sync-2-clause-any_moment : goal.returns-in_err-sync-2-clause-any_moment
 returns-in_err-sync-2-clause-any_moment g c acts =
-    after_resync g.F.DurableFile.model c.args.file.now _ c.sync.ensures.call.time c.sync.ensures.crash _
-    c.read.ensures.call.time c.read.ensures.crash c.whole_len-len.result _
+    after_resync g.F.DurableFile.model c.args.file.now _ c.sync.ensures.call.time
+    c.sync.ensures.crash _ c.read.ensures.call.time c.read.ensures.crash c.whole_len-len.result _
     (c.whole_len-len.ensures.len ∙ ap (λ l. length (text_of (lines_in l)))
     (c.deref.ensures.value ∙ c.in_ok-text.ensures.bytes acts ∙ c.in_ok-sync.ensures.unchanged))
     c.in_ok-sync.ensures.durable c.cut.ensures.call.time c.cut.ensures.crash _
@@ -24,8 +24,8 @@ returns-in_err-sync-2-clause-any_moment g c acts =
 
 pub returns-clause-any_moment : goal.returns-clause-any_moment
 returns-clause-any_moment g c acts =
-    after_resync g.F.DurableFile.model c.args.file.now _ c.sync.ensures.call.time c.sync.ensures.crash _
-    c.read.ensures.call.time c.read.ensures.crash c.whole_len-len.result _
+    after_resync g.F.DurableFile.model c.args.file.now _ c.sync.ensures.call.time
+    c.sync.ensures.crash _ c.read.ensures.call.time c.read.ensures.crash c.whole_len-len.result _
     (c.whole_len-len.ensures.len ∙ ap (λ l. length (text_of (lines_in l)))
     (c.deref.ensures.value ∙ c.in_ok-text.ensures.bytes acts ∙ c.in_ok-sync.ensures.unchanged))
     c.in_ok-sync.ensures.durable c.cut.ensures.call.time c.cut.ensures.crash _

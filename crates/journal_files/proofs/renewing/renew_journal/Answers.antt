@@ -12,12 +12,14 @@ pub returns-in_err-replace-clause-any_moment : goal.returns-in_err-replace-claus
 returns-in_err-replace-clause-any_moment g c acts =
     replaced_any g.P.DurableFile.model c.args.depth c.args.place.now _ _ c.as_slice.result.now
     c.renew_text_of.ensures.time c.renew_text_of.ensures.crash
-    (subst (IsRenewalOf c.args.depth _) (sym c.as_slice.ensures) (c.in_ok-text.ensures.renewed acts))
+    (subst (IsRenewalOf c.args.depth _) (sym c.as_slice.ensures)
+    (c.in_ok-text.ensures.renewed acts))
     (c.replace.ensures.any_moment acts)
 
 pub returns-clause-any_moment : goal.returns-clause-any_moment
 returns-clause-any_moment g c acts =
     replaced_any g.P.DurableFile.model c.args.depth c.args.place.now _ _ c.as_slice.result.now
     c.renew_text_of.ensures.time c.renew_text_of.ensures.crash
-    (subst (IsRenewalOf c.args.depth _) (sym c.as_slice.ensures) (c.in_ok-text.ensures.renewed acts))
+    (subst (IsRenewalOf c.args.depth _) (sym c.as_slice.ensures)
+    (c.in_ok-text.ensures.renewed acts))
     (c.replace.ensures.any_moment acts)
