@@ -1,15 +1,33 @@
 //! `LockFile`: a file whose lock one process at a time holds.
+ghost use Rattle.std.specs.Prelude.{◌≡◌, OnOk};
+ghost use Rattle.durable_lines.specs.RawModel.{raw_bytes};
+
 use crate::fault::LockFault;
+use crate::os_file::OsFile;
 use crate::own_file::{FileAccess, OWNER_ONLY, open_or_create};
+use crate::raw_file::RawFile;
 use std::fs::{File, Files, Permissions, TryLockError};
 use std::os::unix::fs::PermissionsExt;
+
+// Locks a raw file until the value is dropped. Errors: `Held` if another process has locked it,
+// `Failed` if it cannot be locked.
+pub(crate) fn lock_raw<R: RawFile>(raw: &mut R) -> Result<(), LockFault>
+    ensures locked { OnOk result (R.model.is_locked raw.new) }
+    ensures seen { raw_bytes R.model raw.new ≡ raw_bytes R.model raw.old }
+{
+    match raw.try_lock() {
+        Ok(()) => Ok(()),
+        Err(TryLockError::WouldBlock) => Err(LockFault::Held),
+        Err(TryLockError::Error(_)) => Err(LockFault::Failed),
+    }
+}
 
 /// The lock of a file that has no other purpose. It is not removed or renamed, so that its lock
 /// stands for a name whose own file is replaced: whoever holds it may replace that file.
 #[derive(Debug, Drop)]
 pub struct LockFile {
     // (kept open: the lock ends when the file is closed)
-    _file: File,
+    _file: OsFile,
 }
 
 impl LockFile {
@@ -23,10 +41,8 @@ impl LockFile {
         )?;
         // (who may open a file may lock it; an earlier version let all users open it)
         let _ = file.set_permissions(Permissions::from_mode(OWNER_ONLY));
-        match file.try_lock() {
-            Ok(()) => Ok(LockFile { _file: file }),
-            Err(TryLockError::WouldBlock) => Err(LockFault::Held),
-            Err(TryLockError::Error(_)) => Err(LockFault::Failed),
-        }
+        let mut file = OsFile::new(file);
+        lock_raw(&mut file)?;
+        Ok(LockFile { _file: file })
     }
 }

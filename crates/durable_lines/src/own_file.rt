@@ -1,6 +1,9 @@
 //! Opens the files that a program makes for itself: other users may not read them, and no symbolic
 //! link is followed.
-use std::fs::{File, Files, Metadata, OpenOptions, Permissions, TryLockError};
+use crate::fault::LockFault;
+use crate::lock_file::lock_raw;
+use crate::os_file::OsFile;
+use std::fs::{File, Files, Metadata, OpenOptions, Permissions};
 use std::io::ErrorKind;
 use std::os::unix::fs::{MetadataExt, OpenOptionsExt, PermissionsExt};
 use std::{fs, io};
@@ -91,7 +94,7 @@ pub fn open_or_create<R: Files<File = File>>(
 // Returns whether another process has locked the file of a path.
 pub(crate) fn is_held<R: Files<File = File>>(files: &R, path: &str) -> bool {
     match open_own(files, path, FileAccess::Write) {
-        Ok(file) => matches!(file.try_lock(), Err(TryLockError::WouldBlock)),
+        Ok(file) => matches!(lock_raw(&mut OsFile::new(file)), Err(LockFault::Held)),
         Err(_) => false,
     }
 }

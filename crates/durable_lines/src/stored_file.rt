@@ -7,11 +7,12 @@ ghost use Rattle.durable_lines.specs.StoredFile.{limit_of, stored_model, HasFail
 
 use crate::durable_file::DurableFile;
 use crate::fault::{FileFault, LockFault, record_failure};
+use crate::lock_file::lock_raw;
 use crate::os_file::OsFile;
 use crate::raw_calls::{append_within, cut_to, read_within, sync_bytes};
 use crate::raw_file::RawFile;
 use std::alloc::Global;
-use std::fs::{File, TryLockError};
+use std::fs::File;
 use std::marker::Model;
 
 /// A raw file that is limited in length. After a call failed, every later call fails, too, but
@@ -53,11 +54,7 @@ impl<R: RawFile> StoredFile<R> {
         ensures unfailed { IfOk result (λ stored. ¬ HasFailed stored) }
     {
         let mut raw = raw;
-        match raw.try_lock() {
-            Ok(()) => {}
-            Err(TryLockError::WouldBlock) => return Err(LockFault::Held),
-            Err(TryLockError::Error(_)) => return Err(LockFault::Failed),
-        }
+        lock_raw(&mut raw)?;
         if raw.sync_data().is_err() || raw.drop_pages().is_err() {
             return Err(LockFault::Failed);
         }
