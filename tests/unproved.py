@@ -1,7 +1,7 @@
 #!/usr/bin/env python3
-"""Runs the tests below unproved/: those of ledgers, and worked examples, whose proofs would cost
-more than those of what they show. Their files are named *.test, since the gate proves each file of
-a crate.
+"""Runs the tests below unproved/: those of ledgers, worked examples, and long runs, whose proofs
+would cost more than those of what they show. Their files are named *.test, since the gate proves
+each file of a crate.
 
 usage: python3 tests/unproved.py
 

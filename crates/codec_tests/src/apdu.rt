@@ -1,8 +1,7 @@
-//! Requests and responses in every form, each read from its bytes and written back; bytes that end
-//! too early or too late are refused. tests/sessions.py has what the meter makes of each request,
-//! and the response that it writes for each result.
+//! Requests and responses in every form, each read from its bytes and written back.
+//! tests/unproved/long_tests has bytes that end too early or too late, and tests/sessions.py what
+//! the meter makes of each request, and the response that it writes for each result.
 use std::alloc::{AllocError, Global};
-use std::test::Fail;
 use wire_bytes::Octets;
 use xdlms_apdu::{
     ApduFault, InvokeId, Request, Response, read_request, read_response, text_of_request_spells,
@@ -128,13 +127,6 @@ pub(crate) fn is_response(alloc: Global, bytes: &[u8]) -> Result<bool, ApduFault
     Ok(is_so)
 }
 
-// Returns a text followed by a byte 0.
-fn with_one_more_byte(alloc: Global, text: &[u8]) -> Result<Vec<u8>, AllocError> {
-    let mut longer = text.to_vec(alloc)?;
-    longer.push(0)?;
-    Ok(longer)
-}
-
 #[test]
 fn each_request_is_read_and_written(rt: HostRuntime) {
     text_of_request_spells();
@@ -154,65 +146,9 @@ fn each_request_is_read_and_written(rt: HostRuntime) {
 }
 
 #[test]
-fn a_request_that_ends_too_early_or_too_late_is_unreadable(rt: HostRuntime) -> Result<(), Fail> {
-    for text in &REQUESTS {
-        for end in 1..text.len() {
-            let read = is_request(rt.alloc(), &text[..end], text);
-            assert!(rt;
-                read == Err(ApduFault::Unreadable),
-                "{end} bytes of {text:?}"
-            );
-        }
-        let longer = with_one_more_byte(rt.alloc(), text)?;
-        let read = is_request(rt.alloc(), longer.as_slice(), text);
-        drop(longer);
-        assert!(rt; read == Err(ApduFault::Unreadable), "{text:?}");
-    }
-    Ok(())
-}
-
-#[test]
 fn each_response_is_read_and_written(rt: HostRuntime) {
     text_of_response_spells();
     for text in &RESPONSES {
         assert!(rt; is_response(rt.alloc(), text) == Ok(true), "{text:?}");
     }
-}
-
-#[test]
-fn a_response_that_ends_too_early_or_too_late_is_unreadable(rt: HostRuntime) -> Result<(), Fail> {
-    for text in &RESPONSES {
-        for end in 1..text.len() {
-            let read = is_response(rt.alloc(), &text[..end]);
-            assert!(rt;
-                read == Err(ApduFault::Unreadable),
-                "{end} bytes of {text:?}"
-            );
-        }
-        let longer = with_one_more_byte(rt.alloc(), text)?;
-        let read = is_response(rt.alloc(), longer.as_slice());
-        drop(longer);
-        assert!(rt; read == Err(ApduFault::Unreadable), "{text:?}");
-    }
-    Ok(())
-}
-
-// Returns the text of a request that reads the same attribute `count` times.
-fn list_text(alloc: Global, count: u8) -> Result<Vec<u8>, AllocError> {
-    let mut text = Vec::from_slice(alloc, &[0xC0, 0x03, 0xC1, count])?;
-    for _ in 0..count {
-        text.extend_from_slice(&[0x00, 0x46, 0x00, 0x00, 0x60, 0x03, 0x0A, 0xFF, 0x03, 0x00])?;
-    }
-    Ok(text)
-}
-
-#[test]
-fn each_length_of_a_list_is_read_and_written(rt: HostRuntime) -> Result<(), Fail> {
-    for count in 0..103 {
-        let text = list_text(rt.alloc(), count)?;
-        let read = is_request(rt.alloc(), text.as_slice(), text.as_slice());
-        drop(text);
-        assert!(rt; read == Ok(true), "{count} attributes");
-    }
-    Ok(())
 }

@@ -1,5 +1,5 @@
-//! Values of every type of Data, read and written, at and beyond the limits of depth, width and
-//! length.
+//! Texts of each type of Data: other forms that are read, faults, and the limits of depth, width
+//! and length. tests/unproved/long_tests has the value of each text.
 use cosem_axdr::{
     Data, DataFault, Items, Octets, append_length, fits, no_spelling_begins_another, number_of,
     read, text_len, text_of_fit_spells, write,
@@ -31,42 +31,6 @@ static TEXTS: [&[u8]; 20] = [
     ],
     &[0x1A, 0x07, 0xEA, 0x0B, 0x16, 0x07],
     &[0x1B, 0x0C, 0x1E, 0x00, 0x00],
-];
-
-// Returns whether a value is that of the text at an index of the table. The date is 22 November
-// 2026, a Sunday, and the time 12:30.
-fn is_value_at(value: &Data, place: usize) -> bool {
-    match place {
-        0 => matches!(value, Data::Null),
-        1 => matches!(value.array(), Some([Data::Unsigned(1), Data::Unsigned(2)])),
-        2 => matches!(value.structure(), Some([Data::Null, Data::Boolean(true)])),
-        3 => value.boolean() == Some(true),
-        4 => match value {
-            Data::BitString { bits: 5, bytes } => bytes.as_slice() == [0xB8].as_slice(),
-            _ => false,
-        },
-        5 => matches!(value, Data::DoubleLong(number) if *number == -2),
-        6 => value.double_long_unsigned() == Some(7000),
-        7 => value.octets() == Some([0xAB, 0xCD].as_slice()),
-        8 => matches!(value, Data::VisibleString(bytes) if bytes.as_slice() == b"HI".as_slice()),
-        9 =>
-            matches!(value, Data::Utf8String(bytes) if bytes.as_slice() == [0xC3, 0xA9].as_slice()),
-        10 => value.integer() == Some(-2),
-        11 => matches!(value, Data::Long(number) if *number == -2),
-        12 => value.unsigned() == Some(7),
-        13 => value.long_unsigned() == Some(7000),
-        14 => matches!(value, Data::Long64(number) if *number == -2),
-        15 => matches!(value, Data::Long64Unsigned(7000)),
-        16 => value.enumerated() == Some(3),
-        17 => value.date_time() == Some(DATE_TIME.as_slice()),
-        18 => value.date() == Some(&DATE_TIME[..5]),
-        _ => value.time() == Some(&DATE_TIME[5..9]),
-    }
-}
-
-// 22 November 2026, 12:30.
-static DATE_TIME: [u8; 12] = [
-    0x07, 0xEA, 0x0B, 0x16, 0x07, 0x0C, 0x1E, 0x00, 0x00, 0x80, 0x00, 0x00,
 ];
 
 // Calls the function under test without its contract. A test checks what no clause states, so this
@@ -104,34 +68,6 @@ fn is_written_as(alloc: Global, text: &[u8], bytes: &[u8]) -> bool {
     }
 }
 
-// Returns whether a text begins with the value at an index, which has this length.
-fn begins_with(alloc: Global, text: &[u8], place: usize, len: usize) -> bool {
-    match read_from(alloc, text) {
-        Ok((value, found)) => {
-            let is_value = is_value_at(&value, place);
-            drop(value);
-            is_value && found == len
-        }
-        Err(_) => false,
-    }
-}
-
-#[test]
-fn each_tag_is_read_and_written(rt: HostRuntime) {
-    no_spelling_begins_another();
-    text_of_fit_spells();
-    for (place, text) in TEXTS.iter().enumerate() {
-        assert!(rt;
-            begins_with(rt.alloc(), text, place, text.len()),
-            "{text:?}"
-        );
-        assert!(rt; is_written_as(rt.alloc(), text, text), "{text:?}");
-    }
-    assert!(rt; begins_with(rt.alloc(), &[0x16, 0x03, 0x16], 16, 2));
-    // The deepest value.
-    assert!(rt; is_written_as(rt.alloc(), &NINE_DEEP[2..], &NINE_DEEP[2..]));
-}
-
 // A text, and the form in which its value is written.
 static OTHER_FORMS: [(&[u8], &[u8]); 3] = [
     (
@@ -144,6 +80,8 @@ static OTHER_FORMS: [(&[u8], &[u8]); 3] = [
 
 #[test]
 fn other_forms_are_read(rt: HostRuntime) {
+    no_spelling_begins_another();
+    text_of_fit_spells();
     for (text, written) in &OTHER_FORMS {
         assert!(rt; is_written_as(rt.alloc(), text, written), "{text:?}");
     }
@@ -236,36 +174,6 @@ fn each_length_of_a_string_is_read_and_written(rt: HostRuntime) {
     }
 }
 
-// Returns an array of `count` null-data.
-fn nulls(alloc: Global, count: usize) -> Result<Data, AllocError> {
-    let mut items = Vec::new(alloc);
-    for _ in 0..count {
-        items.push(Data::Null)?;
-    }
-    Ok(Data::Array(Items::from_vec(items)))
-}
-
-// Returns whether a value has a text of `len` bytes and is not within the limits.
-fn is_too_long(value: &Data, len: u64) -> bool {
-    !fits(value) && text_len(value) == len
-}
-
-#[test]
-fn larger_values_do_not_fit(rt: HostRuntime) -> Result<(), Fail> {
-    let array = nulls(rt.alloc(), 256)?;
-    let is_array = is_too_long(&array, 260);
-    drop(array);
-    let string = Data::OctetString(Octets::from_vec(vec![in rt.alloc(); 0x5A; 8189]?));
-    let is_string = is_too_long(&string, 8193);
-    drop(string);
-    let (deepest, _) = read_from(rt.alloc(), &NINE_DEEP[2..])?;
-    let deeper = Data::Structure(Items::from_vec(vec![in rt.alloc(); deepest]?));
-    let is_deeper = is_too_long(&deeper, 19);
-    drop(deeper);
-    assert!(rt; [is_array, is_string, is_deeper] == [true; 3]);
-    Ok(())
-}
-
 // Returns whether a bit-string of `bits` bits in one byte fits.
 fn bits_fit(alloc: Global, bits: usize, byte: u8) -> Result<bool, AllocError> {
     let bytes = Octets::from_slice(alloc, &[byte])?;
@@ -289,32 +197,6 @@ fn bit_strings_that_are_not_whole_do_not_fit(rt: HostRuntime) {
     for (bits, byte, fits) in &BITS {
         let found = bits_fit(rt.alloc(), *bits, *byte);
         assert!(rt; found == Ok(*fits), "{bits} of {byte}");
-    }
-}
-
-// Returns whether the values of two texts are equal.
-fn are_equal(alloc: Global, one: &[u8], other: &[u8]) -> Result<bool, DataFault> {
-    let (value, _) = read_from(alloc, one)?;
-    let is_same = is_value_of(alloc, other, &value);
-    drop(value);
-    is_same
-}
-
-// Returns whether a value is equal to that of a text.
-fn is_value_of(alloc: Global, text: &[u8], value: &Data) -> Result<bool, DataFault> {
-    let (found, _) = read_from(alloc, text)?;
-    let is_same = found == *value;
-    drop(found);
-    Ok(is_same)
-}
-
-#[test]
-fn values_are_equal_to_themselves_alone(rt: HostRuntime) {
-    for (place, one) in TEXTS.iter().enumerate() {
-        for (other_place, other) in TEXTS.iter().enumerate() {
-            let found = are_equal(rt.alloc(), one, other);
-            assert!(rt; found == Ok(place == other_place), "{one:?} and {other:?}");
-        }
     }
 }
 
@@ -344,8 +226,8 @@ fn lengths_have_their_shortest_form(rt: HostRuntime) {
     for (length, bytes) in &LENGTHS {
         assert!(rt; is_length(rt.alloc(), *length, bytes), "{length}");
     }
-    assert!(rt; number_of(&[]) == 0 && number_of(&[1, 2]) == 258);
-    assert!(rt; number_of(&[1, 0, 0, 0]) == 0x100_0000);
+    let numbers = [number_of(&[]), number_of(&[1, 2]), number_of(&[1, 0, 0, 0])];
+    assert!(rt; numbers == [0, 258, 0x100_0000]);
 }
 
 #[test]

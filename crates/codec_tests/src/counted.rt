@@ -61,6 +61,8 @@ fn reads_five(alloc: Global, limit: u16) -> Result<bool, InputFault> {
 
 #[test]
 fn an_input_is_read_within_its_limit(rt: HostRuntime) {
-    assert!(rt; reads_five(rt.alloc(), 5) == Ok(true));
-    assert!(rt; reads_five(rt.alloc(), 4) == Err(InputFault::TooLong));
+    let alloc = rt.alloc();
+    assert!(rt;
+        reads_five(alloc, 5) == Ok(true) && reads_five(alloc, 4) == Err(InputFault::TooLong)
+    );
 }

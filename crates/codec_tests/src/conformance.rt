@@ -12,6 +12,8 @@ fn each_service_has_the_bit_of_the_standard(rt: HostRuntime) {
         Conformance::SET.0,
         Conformance::ACTION.0,
     ];
-    assert!(rt; bits == [0x1000, 0x0800, 0x0400, 0x0200, 0x0010, 0x0008, 0x0001]);
-    assert!(rt; OFFERED_CONFORMANCE.0 == 0x1E19);
+    assert!(rt;
+        bits == [0x1000, 0x0800, 0x0400, 0x0200, 0x0010, 0x0008, 0x0001]
+            && OFFERED_CONFORMANCE.0 == 0x1E19
+    );
 }

@@ -150,9 +150,11 @@ fn lines_and_their_words_are_read(rt: HostRuntime) {
     }
     let mut lines = TextLines::new(b"state 1\n\nmode");
     assert!(rt;
-        lines.next() == Some(b"state 1".as_slice()) && lines.next() == Some(b"".as_slice())
+        lines.next() == Some(b"state 1".as_slice())
+            && lines.next() == Some(b"".as_slice())
+            && lines.next().is_none()
+            && lines.rest() == b"mode".as_slice()
     );
-    assert!(rt; lines.next().is_none() && lines.rest() == b"mode".as_slice());
     for (line, first, second, third) in &WORDS {
         let mut words = Words::new(line);
         assert!(rt;

@@ -63,6 +63,5 @@ fn lines_are_read_up_to_their_limit_or_a_failed_read(rt: HostRuntime) {
     for limit in 0..4 {
         assert!(rt; lengths(rt.alloc(), limit) == Err(InputFault::TooLong));
     }
-    assert!(rt; lengths(rt.alloc(), 4) == Ok([3, 1, 0]));
-    assert!(rt; is_recorded(rt.alloc()));
+    assert!(rt; lengths(rt.alloc(), 4) == Ok([3, 1, 0]) && is_recorded(rt.alloc()));
 }

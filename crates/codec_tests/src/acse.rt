@@ -47,7 +47,9 @@ fn is_written(alloc: Global, aarq: &Aarq) -> Result<bool, AllocError> {
 fn is_shown_without_its_password(alloc: Global, aarq: &Aarq) -> Result<bool, AllocError> {
     let text = format!(in alloc; "{aarq:?}")?;
     let is_same = text.as_str()
-        == "Aarq { context: Octets { bytes: [96, 133, 116, 5, 8, 1, 1] }, mechanism: Octets { bytes: [96, 133, 116, 5, 8, 2, 1] }, user: Octets { bytes: [1, 0, 0, 0, 6, 95, 31, 4, 0, 0, 28, 25, 4, 0] }, .. }";
+        == "Aarq { context: Octets { bytes: [96, 133, 116, 5, 8, 1, 1] }, \
+            mechanism: Octets { bytes: [96, 133, 116, 5, 8, 2, 1] }, \
+            user: Octets { bytes: [1, 0, 0, 0, 6, 95, 31, 4, 0, 0, 28, 25, 4, 0] }, .. }";
     drop(text);
     Ok(is_same)
 }
