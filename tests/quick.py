@@ -28,6 +28,7 @@ LANES = [
 LEFT_OUT = {
     "wrong_bodies_reports.py": "it judges proofs",
     "firmware.py": "the C library is built with its proof",
+    "planted.py": "it shows that this run fails over a wrong body",
     "installing.py": "only proved programs are installed",
     "ledger.py": "200 killed campaigns take longer than all the rest",
     "campaign_ledgers.py": "it takes longer than all the rest",
