@@ -20,7 +20,7 @@ PROGRAMS = ("meter_server", "head_end", "trace_player", "meter_fleet", "run_test
 PATIENCE = 1_200
 # Scripts that run one after the other, since they listen at fixed ports; the longer ones first.
 LANES = [
-    ["fleet.py", "readme.py"], ["journal.py"], ["campaigns.py --short"], ["charts.py"], ["unproved.py"], ["hostile.py"],
+    ["unproved.py"], ["fleet.py", "readme.py"], ["journal.py"], ["campaigns.py --short"], ["charts.py"], ["hostile.py"],
     ["campaign_reports.py"], ["sessions.py"], ["command_lines.py"], ["service.py"], ["refused_memory.py"], ["serving.py"],
     ["wireshark.py"], ["failing_streams.py"], ["relay.py"], ["codec_rows.py"], ["clients.py"], ["core_rows.py"],
     ["object_rows.py"], ["opening_rows.py"], ["../bin/manuals --check"], ["tables.py"], ["links.py"], ["prose.py"], ["examples.py"],
