@@ -178,19 +178,24 @@ fn entries_fit_their_type(rt: HostRuntime) {
 #[test]
 fn a_schedule_without_entries_is_never_due(rt: HostRuntime) {
     let schedule = ActionSchedule::without_entries(rt.alloc(), 7, ScheduleType::Type2);
-    assert!(rt; schedule.selector() == 7 && schedule.kind() == ScheduleType::Type2);
-    assert!(rt; schedule.fits() && !schedule.due(0, 86_400));
+    let is_so = schedule.selector() == 7
+        && schedule.kind() == ScheduleType::Type2
+        && schedule.fits()
+        && !schedule.due(0, 86_400);
     drop(schedule);
     let other = ActionSchedule::without_entries(rt.alloc(), 7, ScheduleType::Type1);
-    assert!(rt; !other.fits());
+    let is_unfit = !other.fits();
     drop(other);
+    assert!(rt; is_so && is_unfit);
 }
 
 #[test]
 fn attributes_of_a_schedule_have_their_numbers(rt: HostRuntime) {
-    assert!(rt; ScheduleAttribute::try_from(1) == Err(UnknownNumber(1)));
-    assert!(rt; ScheduleAttribute::try_from(2) == Ok(ScheduleAttribute::ExecutedScript));
-    assert!(rt; ScheduleAttribute::try_from(3) == Ok(ScheduleAttribute::Kind));
-    assert!(rt; ScheduleAttribute::try_from(4) == Ok(ScheduleAttribute::ExecutionTime));
-    assert!(rt; ScheduleAttribute::try_from(5) == Err(UnknownNumber(5)));
+    assert!(rt;
+        ScheduleAttribute::try_from(1) == Err(UnknownNumber(1))
+            && ScheduleAttribute::try_from(2) == Ok(ScheduleAttribute::ExecutedScript)
+            && ScheduleAttribute::try_from(3) == Ok(ScheduleAttribute::Kind)
+            && ScheduleAttribute::try_from(4) == Ok(ScheduleAttribute::ExecutionTime)
+            && ScheduleAttribute::try_from(5) == Err(UnknownNumber(5))
+    );
 }

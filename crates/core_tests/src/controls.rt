@@ -37,11 +37,10 @@ fn in_mode_1_a_person_restores_what_a_client_released(rt: HostRuntime) {
     for (trigger, state, number, output) in &RELEASED_AND_RESTORED {
         let given = control.apply(*trigger);
         assert!(rt;
-            given == ResultCode::Success && control.state() == *state,
-            "{trigger:?}"
-        );
-        assert!(rt;
-            u8::from(*state) == *number && control.output() == *output,
+            given == ResultCode::Success
+                && control.state() == *state
+                && u8::from(*state) == *number
+                && control.output() == *output,
             "{trigger:?}"
         );
     }

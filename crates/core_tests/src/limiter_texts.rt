@@ -108,14 +108,9 @@ fn actions_are_read_back(rt: HostRuntime) {
     let alloc = rt.alloc();
     let attribute = LimiterAttribute::Actions;
     let mut limiter = Limiter::new(alloc);
-    assert!(rt; write(alloc, &mut limiter, attribute, ACTIONS));
-    assert!(rt;
-        limiter.actions()
-            == Actions {
-                over: 1,
-                under: 258
-            }
-    );
-    assert!(rt; is_read(alloc, Which::Import, &limiter, attribute, ACTIONS));
+    let is_written = write(alloc, &mut limiter, attribute, ACTIONS);
+    let Actions { over, under } = limiter.actions();
+    let is_read = is_read(alloc, Which::Import, &limiter, attribute, ACTIONS);
     drop(limiter);
+    assert!(rt; is_written && over == 1 && under == 258 && is_read);
 }

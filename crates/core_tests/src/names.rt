@@ -138,11 +138,8 @@ fn each_level_has_its_rights(rt: HostRuntime) {
     for (name, class, number, public, management) in &RIGHTS {
         let reference = attribute_of(*class, *name, *number);
         assert!(rt;
-            rights(Level::Public, &reference) == *public,
-            "{reference:?}"
-        );
-        assert!(rt;
-            rights(Level::Management, &reference) == *management,
+            rights(Level::Public, &reference) == *public
+                && rights(Level::Management, &reference) == *management,
             "{reference:?}"
         );
     }
@@ -174,9 +171,9 @@ fn method_of(class: u16, name: Obis, number: u8) -> MethodRef {
 fn the_management_client_alone_executes(rt: HostRuntime) {
     for (name, class, number, executes) in &METHODS {
         let method = method_of(*class, *name, *number);
-        assert!(rt; !may_execute(Level::Public, &method), "{method:?}");
         assert!(rt;
-            may_execute(Level::Management, &method) == *executes,
+            !may_execute(Level::Public, &method)
+                && may_execute(Level::Management, &method) == *executes,
             "{method:?}"
         );
     }
@@ -322,13 +319,15 @@ const DEVICE_NAME_ENTRY: &[u8] = b"\x02\x04\x12\x00\x01\x11\x00\x09\x06\x00\x00\
 /// The script table, class 9, version 0, for the public client: attribute 1 is read_only, attribute
 /// 2 and method 1 are no_access.
 const PUBLIC_SCRIPTS_ENTRY: &[u8] = b"\x02\x04\x12\x00\x09\x11\x00\x09\x06\x00\x00\x0A\x00\x6A\xFF\
-    \x02\x02\x01\x02\x02\x03\x0F\x01\x16\x01\x00\x02\x03\x0F\x02\x16\x00\x00\x01\x01\x02\x02\x0F\x01\x16\x00";
+    \x02\x02\x01\x02\x02\x03\x0F\x01\x16\x01\x00\x02\x03\x0F\x02\x16\x00\x00\
+    \x01\x01\x02\x02\x0F\x01\x16\x00";
 
 /// The script table, class 9, version 0, for the management client: attribute 1 is read_only,
 /// attribute 2 is read_and_write, and method 1 may be executed.
 const MANAGEMENT_SCRIPTS_ENTRY: &[u8] =
     b"\x02\x04\x12\x00\x09\x11\x00\x09\x06\x00\x00\x0A\x00\x6A\xFF\
-    \x02\x02\x01\x02\x02\x03\x0F\x01\x16\x01\x00\x02\x03\x0F\x02\x16\x03\x00\x01\x01\x02\x02\x0F\x01\x16\x01";
+    \x02\x02\x01\x02\x02\x03\x0F\x01\x16\x01\x00\x02\x03\x0F\x02\x16\x03\x00\
+    \x01\x01\x02\x02\x0F\x01\x16\x01";
 
 /// The start of a schedule's entry, class 22, version 0, up to the value group A of its logical
 /// name.

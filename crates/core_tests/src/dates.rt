@@ -87,8 +87,9 @@ fn intervals(rt: HostRuntime) -> Result<(), Fail> {
             "{after} to {upto}"
         );
     }
-    assert!(rt; entry.matches(888_796_799) && !entry.matches(888_796_798));
-    assert!(rt; !entry.date_is_plain());
+    assert!(rt;
+        entry.matches(888_796_799) && !entry.matches(888_796_798) && !entry.date_is_plain()
+    );
     Ok(())
 }
 
