@@ -10,8 +10,9 @@ const FIRST_DAY: u32 = 719_528;
 fn a_second_is_written(rt: HostRuntime) -> Result<(), Fail> {
     let leap_day = civil_text(rt.alloc(), FIRST_DAY, 951_827_696)?;
     let last = civil_text(rt.alloc(), FIRST_DAY, 4_294_967_295)?;
-    assert!(rt; leap_day.as_str() == "2000-02-29T12:34:56");
-    assert!(rt; last.as_str() == "2106-02-07T06:28:15");
+    assert!(rt;
+        leap_day.as_str() == "2000-02-29T12:34:56" && last.as_str() == "2106-02-07T06:28:15"
+    );
     Ok(())
 }
 
@@ -41,9 +42,11 @@ fn values_are_written(rt: HostRuntime) -> Result<(), Fail> {
     let number = number_value(Some(7)).to_string(rt.alloc())?;
     let no_number = number_value(None).to_string(rt.alloc())?;
     let no_text = text_value(None).to_string(rt.alloc())?;
-    assert!(rt; text.as_str() == "\"a\\\"b\"");
-    assert!(rt; number.as_str() == "7");
-    assert!(rt; no_number.as_str() == "null");
-    assert!(rt; no_text.as_str() == "null");
+    assert!(rt;
+        text.as_str() == "\"a\\\"b\""
+            && number.as_str() == "7"
+            && no_number.as_str() == "null"
+            && no_text.as_str() == "null"
+    );
     Ok(())
 }

@@ -138,9 +138,17 @@ fn a_trace_of_version_1_is_written_as_version_2(rt: HostRuntime) {
 
 #[test]
 fn faults_have_numbers(rt: HostRuntime) {
-    assert!(rt; u8::from(PlayFault::Line(7)) == 1 && u8::from(PlayFault::TooLong) == 2);
-    assert!(rt; u8::from(PlayFault::Read) == 3 && u8::from(PlayFault::Write) == 4);
-    assert!(rt; u8::from(PlayFault::Memory) == 5);
-    assert!(rt; u8::from(TraceFault::Line(7)) == 1 && u8::from(TraceFault::TooLong) == 2);
-    assert!(rt; u8::from(TraceFault::Memory) == 3);
+    let of_plays = [
+        u8::from(PlayFault::Line(7)),
+        u8::from(PlayFault::TooLong),
+        u8::from(PlayFault::Read),
+        u8::from(PlayFault::Write),
+        u8::from(PlayFault::Memory),
+    ];
+    let of_traces = [
+        u8::from(TraceFault::Line(7)),
+        u8::from(TraceFault::TooLong),
+        u8::from(TraceFault::Memory),
+    ];
+    assert!(rt; of_plays == [1, 2, 3, 4, 5] && of_traces == [1, 2, 3]);
 }
