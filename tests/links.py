@@ -200,9 +200,9 @@ def long_names(text):
 
 
 def steps(text):
-    """The single names in code that no crate declares."""
+    """The single names in code that no crate declares and no test has."""
     for it in CODE.findall(text):
-        if re.fullmatch(r"[a-zA-Z_]+", it) and it not in CRATES and it not in ALL_DECLARED:
+        if re.fullmatch(r"[a-zA-Z_]+", it) and it not in CRATES and it not in ALL_DECLARED and it not in TESTS:
             yield f"no {it}"
 
 

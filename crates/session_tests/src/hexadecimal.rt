@@ -3,7 +3,7 @@
 ghost use Rattle.acse_ber.specs.Password.{IsPassword};
 ghost use Rattle.relay_core.specs.World.{IsDeviceName};
 
-use crate::sessions::{Input, Output};
+use crate::streams::{Input, Output};
 use cosem_axdr::Octets;
 use counted_io::Counted;
 use session_io::{HexFault, TextFault, read_hex, run_hex};
