@@ -1,23 +1,27 @@
-//! Tests of `fleet_links`, `fleet_meters` and `fleet_console`: connections over a stream whose
-//! bytes are written by hand, and lines of the console with their answers.
+//! Tests of meters in one process, without threads. Of `embedded_meter`: its events and its trace.
+//! Of `fleet_links` and `fleet_meters`: addresses, terms, and the events of a fleet's meters. Of
+//! `fleet_faults`: draws, words of the command line, streams with each fault, and events that are
+//! held back. tests/unproved/long_tests has sessions, connections and the console, whose proofs
+//! would cost more; tests/firmware.py tests the C library, and tests/fleet.py a fleet over sockets.
 //!
-//! The tests have a crate of their own because a check of tests also proves the rest of their
-//! crate.
+//! Tests are in a crate of their own because a check of tests proves their whole crate again.
 #![tactic(auto)]
 
 #[cfg(test)]
 mod addresses;
 #[cfg(test)]
-mod consoles;
+mod delays;
 #[cfg(test)]
-mod events;
+mod draws;
 #[cfg(test)]
-mod faults;
+mod fleet_events;
 #[cfg(test)]
-mod fleets;
+mod meter_events;
+#[cfg(test)]
+mod meters;
 #[cfg(test)]
 mod silent_fleets;
 #[cfg(test)]
-mod talk;
+mod streams;
 #[cfg(test)]
 mod terms;

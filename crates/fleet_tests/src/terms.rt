@@ -1,5 +1,5 @@
 //! The terms of meters: a trace that they continue from, and texts that are none.
-use crate::fleets::TRACE;
+use crate::silent_fleets::TRACE;
 use cosem_axdr::Octets;
 use fleet_faults::{FaultPlan, FaultShares};
 use fleet_meters::{FleetTerms, MeterTerms};
@@ -16,9 +16,11 @@ fn fault_of(rt: &impl Abort, alloc: Global, text: &[u8]) -> Result<Option<TraceF
     assert!(rt; password.len() == 8);
     match MeterTerms::from_trace(alloc, trace, password, 4) {
         Ok(terms) => {
-            assert!(rt; terms.trace.as_slice() == text);
-            assert!(rt; terms.password.as_slice() == b"12345678".as_slice());
-            assert!(rt; terms.kept_events == 4);
+            assert!(rt;
+                terms.trace.as_slice() == text
+                    && terms.password.as_slice() == b"12345678".as_slice()
+                    && terms.kept_events == 4
+            );
             drop(terms);
             Ok(None)
         }
@@ -29,8 +31,10 @@ fn fault_of(rt: &impl Abort, alloc: Global, text: &[u8]) -> Result<Option<TraceF
 #[test]
 fn a_trace_is_checked(rt: HostRuntime) -> Result<(), Fail> {
     let alloc = rt.alloc();
-    assert!(rt; fault_of(&rt, alloc, TRACE)?.is_none());
-    assert!(rt; fault_of(&rt, alloc, b"")? == Some(TraceFault::Line(1)));
+    assert!(rt;
+        fault_of(&rt, alloc, TRACE)?.is_none()
+            && fault_of(&rt, alloc, b"")? == Some(TraceFault::Line(1))
+    );
     let (shortened, _) = TRACE.split_at(TRACE.len() - 9);
     assert!(rt; fault_of(&rt, alloc, shortened)? == Some(TraceFault::Line(21)));
     Ok(())
@@ -58,8 +62,10 @@ fn refusing_fault(alloc: Global, text: &[u8]) -> Result<Option<TraceFault>, Trac
 fn the_trace_of_refusing_meters_is_checked(rt: HostRuntime) -> Result<(), Fail> {
     let alloc = rt.alloc();
     let (shortened, _) = TRACE.split_at(TRACE.len() - 9);
-    assert!(rt; refusing_fault(alloc, TRACE)?.is_none());
-    assert!(rt; refusing_fault(alloc, b"")? == Some(TraceFault::Line(1)));
-    assert!(rt; refusing_fault(alloc, shortened)? == Some(TraceFault::Line(21)));
+    assert!(rt;
+        refusing_fault(alloc, TRACE)?.is_none()
+            && refusing_fault(alloc, b"")? == Some(TraceFault::Line(1))
+            && refusing_fault(alloc, shortened)? == Some(TraceFault::Line(21))
+    );
     Ok(())
 }

@@ -67,10 +67,12 @@ fn faults_of_terms_follow_those_of_streams(rt: HostRuntime) -> Result<(), Fail> 
 fn an_address_has_the_fault_of_its_meter(rt: HostRuntime) -> Result<(), Fail> {
     let shares = FaultShares::new().with_word(b"vanishes=11")?;
     let plan = FaultPlan { shares, seed: 0 };
-    assert!(rt; plan.fault_at([127, 0, 0, 2]) == Some(InjectedFault::Vanishes));
-    assert!(rt; plan.fault_at([127, 0, 0, 1]).is_none());
-    assert!(rt; plan.fault_at([127, 255, 255, 255]).is_none());
-    assert!(rt; plan.fault_at([10, 0, 0, 2]).is_none());
+    assert!(rt;
+        plan.fault_at([127, 0, 0, 2]) == Some(InjectedFault::Vanishes)
+            && plan.fault_at([127, 0, 0, 1]).is_none()
+            && plan.fault_at([127, 255, 255, 255]).is_none()
+            && plan.fault_at([10, 0, 0, 2]).is_none()
+    );
     Ok(())
 }
 
@@ -81,23 +83,29 @@ fn words_give_shares(rt: HostRuntime) -> Result<(), Fail> {
         .with_word(b"slow=20")?
         .with_word(b"vanishes=0")?
         .with_word(b"closes=75")?;
-    assert!(rt; shares.share(InjectedFault::Silent) == 5);
-    assert!(rt; shares.share(InjectedFault::Slow) == 20);
-    assert!(rt; shares.share(InjectedFault::Vanishes) == 0);
-    assert!(rt; shares.share(InjectedFault::Closes) == 75);
-    assert!(rt; shares.with_word(b"vanishes=1") == Err(ShareFault::Total));
-    assert!(rt; shares.with_word(b"wrong-password=1") == Err(ShareFault::Total));
+    assert!(rt;
+        shares.share(InjectedFault::Silent) == 5
+            && shares.share(InjectedFault::Slow) == 20
+            && shares.share(InjectedFault::Vanishes) == 0
+            && shares.share(InjectedFault::Closes) == 75
+            && shares.with_word(b"vanishes=1") == Err(ShareFault::Total)
+            && shares.with_word(b"wrong-password=1") == Err(ShareFault::Total)
+    );
     assert!(rt; shares.with_word(b"refuses=1") == Err(ShareFault::Total));
     let shares = shares.with_word(b"closes=7")?;
-    assert!(rt; shares.share(InjectedFault::Closes) == 7);
-    assert!(rt; shares.with_word(b"silent=73")?.share(InjectedFault::Silent) == 73);
-    assert!(rt; shares.with_word(b"silent=74") == Err(ShareFault::Total));
+    assert!(rt;
+        shares.share(InjectedFault::Closes) == 7
+            && shares.with_word(b"silent=73")?.share(InjectedFault::Silent) == 73
+            && shares.with_word(b"silent=74") == Err(ShareFault::Total)
+    );
     let shares = shares
         .with_word(b"wrong-password=30")?
         .with_word(b"refuses=38")?;
-    assert!(rt; shares.share(InjectedFault::WrongPassword) == 30);
-    assert!(rt; shares.share(InjectedFault::Refuses) == 38);
-    assert!(rt; shares.with_word(b"closes=8") == Err(ShareFault::Total));
+    assert!(rt;
+        shares.share(InjectedFault::WrongPassword) == 30
+            && shares.share(InjectedFault::Refuses) == 38
+            && shares.with_word(b"closes=8") == Err(ShareFault::Total)
+    );
     Ok(())
 }
 

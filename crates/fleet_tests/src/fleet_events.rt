@@ -21,20 +21,25 @@ fn press(alloc: Global, fleet: &mut Fleet<Silence>, meter: usize) -> Option<Acce
 
 /// Presses the buttons of meters 2 and 3, and of meters that there are not.
 fn press_buttons(rt: &impl Abort, alloc: Global, fleet: &mut Fleet<Silence>) -> Result<(), Fail> {
-    assert!(rt; fleet.meters() == 3);
-    assert!(rt; fleet.count(alloc, ControlState::Connected)? == 3);
-    assert!(rt; press(alloc, fleet, 2).is_none());
-    assert!(rt; press(alloc, fleet, 0) == Some(AccessFault::NoMeter));
-    assert!(rt; press(alloc, fleet, 4) == Some(AccessFault::NoMeter));
-    assert!(rt; fleet.state(alloc, 1) == Ok(ControlState::Connected));
-    assert!(rt; fleet.state(alloc, 2) == Ok(ControlState::ReadyForReconnection));
-    assert!(rt; fleet.state(alloc, 3) == Ok(ControlState::Connected));
-    assert!(rt; fleet.state(alloc, 4) == Err(AccessFault::NoMeter));
-    assert!(rt; fleet.count(alloc, ControlState::ReadyForReconnection)? == 1);
-    assert!(rt; fleet.count(alloc, ControlState::Connected)? == 2);
-    assert!(rt; fleet.count(alloc, ControlState::Disconnected)? == 0);
-    assert!(rt; press(alloc, fleet, 2).is_none());
-    assert!(rt; fleet.state(alloc, 2) == Ok(ControlState::Connected));
+    assert!(rt;
+        fleet.meters() == 3
+            && fleet.count(alloc, ControlState::Connected)? == 3
+            && press(alloc, fleet, 2).is_none()
+            && press(alloc, fleet, 0) == Some(AccessFault::NoMeter)
+            && press(alloc, fleet, 4) == Some(AccessFault::NoMeter)
+            && fleet.state(alloc, 1) == Ok(ControlState::Connected)
+    );
+    assert!(rt;
+        fleet.state(alloc, 2) == Ok(ControlState::ReadyForReconnection)
+            && fleet.state(alloc, 3) == Ok(ControlState::Connected)
+            && fleet.state(alloc, 4) == Err(AccessFault::NoMeter)
+            && fleet.count(alloc, ControlState::ReadyForReconnection)? == 1
+            && fleet.count(alloc, ControlState::Connected)? == 2
+            && fleet.count(alloc, ControlState::Disconnected)? == 0
+    );
+    assert!(rt;
+        press(alloc, fleet, 2).is_none() && fleet.state(alloc, 2) == Ok(ControlState::Connected)
+    );
     Ok(())
 }
 

@@ -143,8 +143,13 @@ fn a_blocked_write_is_tried_again(rt: HostRuntime) -> Result<(), Fail> {
     let last = stream.write(b"wer");
     let is_so = stream.stream.written.as_slice() == b"AAREans".as_slice();
     drop(stream);
-    assert!(rt; first == Sent::Bytes(4) && blocked == Sent::Blocked);
-    assert!(rt; course == FaultCourse::CutsNext);
-    assert!(rt; half == Sent::Bytes(3) && last == Sent::Failed && is_so);
+    assert!(rt;
+        first == Sent::Bytes(4)
+            && blocked == Sent::Blocked
+            && course == FaultCourse::CutsNext
+            && half == Sent::Bytes(3)
+            && last == Sent::Failed
+            && is_so
+    );
     Ok(())
 }
