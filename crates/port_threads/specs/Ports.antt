@@ -35,6 +35,7 @@ pub record SplitsOff {E R O : Type 0} (p own q : ShownPort E R O) : Type 0 where
   pub splits : q.known.splits ≡ p.known.splits + 1
   pub lock : own.lock ≡ p.lock
   pub bound : own.bound ≡ p.bound
+  pub origin : own.known.origin ≡ p.known.origin
   pub number : own.known.number ≡ child p.known.number p.known.splits
   pub unsplit : own.known.splits ≡ 0
   pub fresh : calls_by own.known.number own.known.seen ≡ []

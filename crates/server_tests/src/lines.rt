@@ -69,7 +69,11 @@ fn take<W: Wait>(
 ) -> Option<(Vec<u8>, u64)> {
     let room = Vec::new(alloc);
     match port.inspect(rt, alloc, Question::Take { taken, room })? {
-        Finding::Taken { text, count } => Some((text, count)),
+        Finding::Taken {
+            text,
+            count,
+            switches: _,
+        } => Some((text, count)),
         Finding::Count(_) | Finding::Incomplete => None,
     }
 }

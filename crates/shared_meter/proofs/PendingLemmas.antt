@@ -21,13 +21,14 @@ text_append (line ∷ lines) more =
 
 -- no lines are pending of a journal without lines
 pub none_pending : (pending : PendingView) → pending.text ≡ [] → pending.taken ≡ 0
-    → pending.count ≡ 0 → IsPending pending []
+    → pending.count ≡ 0 → pending.switches ≡ 0 → IsPending pending [] 0
 unfolding text_of
-none_pending pending text taken count = record {
+none_pending pending text taken count switches = record {
   plain = tt;
   count = count;
   taken = subst (λ n. n ≤ 0) (sym taken) (omega arith);
   text = text ∙ subst (λ n. [] ≡ text_of (drop n [])) (sym taken) refl;
+  switches_are = switches;
 }
 
 plain_push : (lines : List (List ℕ)) (line : List ℕ) → AllByRecursion IsPlain lines → IsPlain line
@@ -36,12 +37,12 @@ plain_push [] line plain one = (one, tt)
 plain_push (first ∷ lines) line plain one = (plain.0, plain_push lines line plain.1 one)
 
 -- one more line is pending, unless it was lost
-pub noted : (old new : PendingView) (more line : List ℕ) (lines : List (List ℕ))
-    → IsTextOfLine line more → new.text ≡ old.text ++ more → new.taken ≡ old.taken
-    → new.count ≡ old.count + 1 → new.is_lost ≡ old.is_lost
-    → Pends old lines → Pends new (lines ++ line ∷ [])
-noted old new more line lines written text taken count same pends whole =
-    let was : IsPending old lines = pends (sym same ∙ whole) in
+pub noted : (old new : PendingView) (more line : List ℕ) (by : ℕ) (lines : List (List ℕ))
+    (switches : ℕ) → IsTextOfLine line more → new.text ≡ old.text ++ more → new.taken ≡ old.taken
+    → new.count ≡ old.count + 1 → new.switches ≡ old.switches + by → new.is_lost ≡ old.is_lost
+    → Pends old lines switches → Pends new (lines ++ line ∷ []) (switches + by)
+noted old new more line by lines switches written text taken count switched same pends whole =
+    let was : IsPending old lines switches = pends (sym same ∙ whole) in
     let within : new.taken ≤ length lines = subst (λ n. n ≤ length lines) (sym taken) was.taken in
     record {
       plain = plain_push lines line was.plain written.1;
@@ -52,19 +53,22 @@ noted old new more line lines written text taken count same pends whole =
           ∙ (sym (text_append (drop old.taken lines) (line ∷ []))
           ∙ (ap (λ n. text_of (drop n lines ++ line ∷ [])) (sym taken)
           ∙ ap text_of (sym (drop-append-le new.taken lines (line ∷ []) within))))));
+      switches_are = switched ∙ ap (λ n. n + by) was.switches_are;
     }
 
 -- no line is left after all were taken
-pub none_left : (old new : PendingView) (lines : List (List ℕ)) → new.text ≡ []
-    → new.taken ≡ old.count → new.count ≡ old.count → IsPending old lines → IsPending new lines
+pub none_left : (old new : PendingView) (lines : List (List ℕ)) (switches : ℕ) → new.text ≡ []
+    → new.taken ≡ old.count → new.count ≡ old.count → new.switches ≡ old.switches
+    → IsPending old lines switches → IsPending new lines switches
 unfolding text_of
-none_left old new lines text taken count was =
+none_left old new lines switches text taken count switched was =
     let all : new.taken ≡ length lines = taken ∙ was.count in
     record {
       plain = was.plain;
       count = count ∙ was.count;
       taken = subst (λ n. n ≤ length lines) (sym all) (omega arith);
       text = text ∙ sym (ap text_of (subst (λ n. drop n lines ≡ []) (sym all) (drop-length lines)));
+      switches_are = switched ∙ was.switches_are;
     }
 
 -- the lines of a history with one more call

@@ -3,8 +3,9 @@ use Rattle.std.proofs.Common.{◌≡◌, ℕ, ◌≤◌, length, Option, Some, N
 use Rattle.std.specs.Prelude.{IfSome}
 use Rattle.turn_lock.specs.History.{StartsWith}
 use Rattle.turn_lock.proofs.Lists.{starts_refl, starts_trans}
-use Rattle.shared_meter.specs.Calls.{Calls}
-use Rattle.shared_meter.specs.Pending.{Finds, lines_of_calls}
+use Rattle.relay_core.specs.declared.opening.Opening.{Opening}
+use Rattle.shared_meter.specs.Calls.{Calls, Finds}
+use Rattle.shared_meter.specs.Pending.{lines_of_calls}
 use Rattle.shared_meter.specs.Settling.{AreDurable}
 use Rattle.shared_meter.specs.declared.pending.Finding.{Finding}
 use Rattle.shared_meter.specs.declared.pending.Finding.TheVariants.{Count}
@@ -53,6 +54,7 @@ durable_fewer IsDurable calls lines fewer less are = record {
 }
 
 -- the number of lines that was found
-pub found_count : (calls : Calls) (found : Finding) (lines : ℕ) → found ≡ Count lines
-    → Finds calls question.Count found → lines ≡ length (lines_of_calls calls)
-found_count calls found lines is finds = subst (Finds calls question.Count) is finds
+pub found_count : (origin : Opening) (calls : Calls) (found : Finding) (lines : ℕ)
+    → found ≡ Count lines → Finds origin calls question.Count found
+    → lines ≡ length (lines_of_calls calls)
+found_count origin calls found lines is finds = subst (Finds origin calls question.Count) is finds

@@ -1,5 +1,5 @@
 -- The histories of calls that a recorder in a lock may have.
-use Rattle.std.specs.Prelude.{◌≡◌, List, map, IsTrue}
+use Rattle.std.specs.Prelude.{◌≡◌, ℕ, List, map, IsTrue}
 use Rattle.turn_lock.specs.declared.turned.Entry.{Entry}
 use Rattle.relay_events.specs.declared.event.Event.{Event}
 use Rattle.relay_events.specs.declared.reply.Reply.{Reply}
@@ -8,7 +8,10 @@ use Rattle.relay_core.specs.Machine.{is_sure}
 use Rattle.relay_core.specs.Opening.{world_of_opening}
 use Rattle.relay_recorder.specs.Histories.{Exchange, StandsForHistory, events_of, replies_of, replies_from}
 use Rattle.shared_meter.specs.KeptRecorder.{KeptRecorder}
-use Rattle.shared_meter.specs.Pending.{PendsIn, lines_of_calls}
+use Rattle.shared_meter.specs.Pending.{Answers, PendsIn, lines_of_calls}
+use Rattle.shared_meter.specs.Switching.{switches_in}
+use Rattle.shared_meter.specs.declared.pending.Finding.{Finding}
+use Rattle.shared_meter.specs.declared.pending.Question.{Question}
 
 -- the calls of all ports, oldest first
 abbrev pub Calls : Type 0
@@ -24,12 +27,21 @@ IsLegal origin calls =
     replies_of (events_and_replies calls) ≡ replies_from (world_of_opening origin)
     (events_of (events_and_replies calls))
 
+-- how often the supply output was changed by these calls, from the world of the opening
+abbrev pub switches_of : Opening → Calls → ℕ
+switches_of origin calls =
+    switches_in (world_of_opening origin) (events_of (events_and_replies calls))
+
+-- whether this is what a question finds in a history of calls
+abbrev pub Finds : Opening → Calls → Question → Finding → Type 0
+Finds origin calls = Answers (lines_of_calls calls) (switches_of origin calls)
+
 -- whether the recorder results from these calls, starting from the world of its origin, and the
--- journal has their lines
+-- journal has their lines and the number of their changes of the supply output
 pub record Stands (kept : KeptRecorder) (calls : Calls) : Type 0 where
   pub history : StandsForHistory kept.recorder (events_and_replies calls)
       (world_of_opening kept.origin)
-  pub pending : PendsIn kept.pending (lines_of_calls calls)
+  pub pending : PendsIn kept.pending (lines_of_calls calls) (switches_of kept.origin calls)
 
 -- whether there are calls that the recorder results from
 pub record HasCalls (kept : KeptRecorder) : Type 0 where

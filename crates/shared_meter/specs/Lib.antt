@@ -6,4 +6,5 @@ pub mod KeptRecorder
 pub mod Pending
 pub mod Settling
 pub mod Sources
+pub mod Switching
 pub mod Thresholds

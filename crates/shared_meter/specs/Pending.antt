@@ -3,7 +3,7 @@
 --     IsTextOfLine                  the text of one line
 --     PendingView, IsPending        the lines that were not taken yet
 --     Pends                         the lines are pending, unless one was lost
---     Finds                         what a question finds
+--     Answers                       what a question finds
 use Rattle.std.specs.Prelude.{◌≡◌, ℕ, ◌≤◌, Bool, false, List, [], ◌∷◌, ◌++◌, length}
 use Rattle.std.specs.Prelude.{drop, Option, Some, None, if◌then◌else◌, ⊤}
 use Rattle.std.specs.List.{AllByRecursion}
@@ -33,28 +33,35 @@ abbrev pub IsTextOfLine : List ℕ → List ℕ → Type 0
 IsTextOfLine line text = (text ≡ text_of (line ∷ [])) × IsPlain line
 
 -- The lines that were not taken yet: their text, the number of lines that were taken before, the
--- number of all lines, and whether a line was lost.
+-- number of all lines, how often the supply output was changed by their events, and whether a line
+-- was lost.
 pub record PendingView : Type 0 where
   pub text : List ℕ
   pub taken : ℕ
   pub count : ℕ
+  pub switches : ℕ
   pub is_lost : Bool
 
--- whether the text is that of all lines after those that were taken, and no line has a byte 0 or 0A
-pub record IsPending (pending : PendingView) (lines : List (List ℕ)) : Type 0 where
+-- whether the text is that of all lines after those that were taken, no line has a byte 0 or 0A,
+-- and this is the number of changes of the output
+pub record IsPending (pending : PendingView) (lines : List (List ℕ)) (switches : ℕ)
+    : Type 0 where
   pub plain : AllByRecursion IsPlain lines
   pub count : pending.count ≡ length lines
   pub taken : pending.taken ≤ length lines
   pub text : pending.text ≡ text_of (drop pending.taken lines)
+  pub switches_are : pending.switches ≡ switches
 
--- whether the text is that of the lines that were not taken, unless a line was lost
-abbrev pub Pends : PendingView → List (List ℕ) → Type 0
-Pends pending lines = pending.is_lost ≡ false → IsPending pending lines
+-- whether the text is that of the lines that were not taken, and this is the number of changes of
+-- the output, unless a line was lost
+abbrev pub Pends : PendingView → (lines : List (List ℕ)) → (switches : ℕ) → Type 0
+Pends pending lines switches = pending.is_lost ≡ false → IsPending pending lines switches
 
--- whether the pending lines of a meter, if it has a journal, are those that were not taken
-abbrev pub PendsIn : Option PendingView → List (List ℕ) → Type 0
-PendsIn None lines = ⊤
-PendsIn (Some pending) lines = Pends pending lines
+-- whether the pending lines of a meter, if it has a journal, are those that were not taken, and
+-- this is the number of changes of the output
+abbrev pub PendsIn : Option PendingView → (lines : List (List ℕ)) → (switches : ℕ) → Type 0
+PendsIn None lines switches = ⊤
+PendsIn (Some pending) lines switches = Pends pending lines switches
 
 -- whether the text is that of all lines after the first `taken`, `count` is the number of all, and
 -- no line has a byte 0 or 0A
@@ -64,14 +71,12 @@ pub record IsRest (lines : List (List ℕ)) (taken : ℕ) (text : List ℕ) (cou
   pub text_is : text ≡ text_of (drop taken lines)
   pub count_is : count ≡ length lines
 
--- Whether this is what a question finds, by the lines of the history: their number, or the text
--- after the lines that were taken. Nothing is claimed of an incomplete finding.
-abbrev pub Answers : List (List ℕ) → Question → Finding → Type 0
-Answers lines question (Incomplete) = ⊤
-Answers lines question.Count (Count count) = count ≡ length lines
-Answers lines (question.Take taken room) (Taken text count) = IsRest lines taken text.items count
-Answers lines _ _ = ⊥
-
--- whether this is what a question finds in a history of calls
-abbrev pub Finds : List (Entry Event Reply) → Question → Finding → Type 0
-Finds calls question finding = Answers (lines_of_calls calls) question finding
+-- Whether this is what a question finds, by the lines of the history and the number of changes of
+-- the supply output: the number of lines, or the text after the lines that were taken, with both
+-- numbers. Nothing is claimed of an incomplete finding.
+abbrev pub Answers : (lines : List (List ℕ)) → (switches : ℕ) → Question → Finding → Type 0
+Answers lines switches question (Incomplete) = ⊤
+Answers lines switches question.Count (Count count) = count ≡ length lines
+Answers lines switches (question.Take taken room) (Taken text count switched) =
+    IsRest lines taken text.items count × (switched ≡ switches)
+Answers lines switches _ _ = ⊥

@@ -1,10 +1,14 @@
 //! `Kept`: a recorder as the value of a turn lock, which applies one event at each turn, and the
 //! lines of its journal.
-ghost use Rattle.std.specs.Prelude.{◌≡◌, ℕ, List, [], ◌++◌, None, Some, IfOk, OnOk, OnErr};
+ghost use Rattle.std.specs.Prelude.{◌≡◌, ℕ, ◌+◌, List, [], ◌++◌, None, Some, IfOk, OnOk, OnErr};
+ghost use Rattle.relay_core.specs.Machine.{at_event};
 ghost use Rattle.relay_core.specs.Opening.{opening_of};
+ghost use Rattle.relay_core.specs.Stands.{StandsFor};
+ghost use Rattle.relay_core.specs.World.{World};
 ghost use Rattle.relay_recorder.specs.Histories.{Continues};
-ghost use Rattle.shared_meter.specs.Calls.{HasCalls, IsLegal, IsSure, Stands};
-ghost use Rattle.shared_meter.specs.Pending.{Finds, Pends, PendsIn, event_lines};
+ghost use Rattle.shared_meter.specs.Calls.{Finds, HasCalls, IsLegal, IsSure, Stands};
+ghost use Rattle.shared_meter.specs.Pending.{Answers, Pends, PendsIn, event_lines};
+ghost use Rattle.shared_meter.specs.Switching.{change, is_on};
 
 use crate::pending::{Finding, PendingLines, Question, line_text};
 use relay_core::{Opening, RelayCore};
@@ -74,7 +78,7 @@ impl Kept {
     /// change the meter is noted in it. Does not allocate.
     pub fn with_journal(recorder: Recorder, pending: PendingLines) -> Kept
         requires recorder { recorder.events ≡ [] }
-        requires pending { Pends pending [] }
+        requires pending { Pends pending [] 0 }
         ensures recorder { result.recorder ≡ recorder }
         ensures origin { result.origin ≡ opening_of recorder.core }
         ensures pending { result.pending ≡ Some pending }
@@ -86,7 +90,7 @@ impl Kept {
     // Wraps a recorder and its journal, if it has one.
     fn with(recorder: Recorder, pending: Option<PendingLines>) -> Kept
         requires recorder { recorder.events ≡ [] }
-        requires pending { PendsIn pending [] }
+        requires pending { PendsIn pending [] 0 }
         ensures recorder { result.recorder ≡ recorder }
         ensures origin { result.origin ≡ opening_of recorder.core }
         ensures pending { result.pending ≡ pending }
@@ -159,13 +163,23 @@ impl Inspected for Kept {
 
     type Finding = Finding;
 
-    ghost finds = { λ _. Finds };
+    ghost finds = { Finds };
 
     fn inspect(&mut self, _alloc: Global, question: Question) -> Finding {
-        match &mut self.pending {
-            Some(pending) => pending.answer(question),
-            None => Finding::Incomplete,
-        }
+        find(&mut self.pending, question)
+    }
+}
+
+// Answers a question about the lines of a meter that may have a journal.
+fn find(pending: &mut Option<PendingLines>, question: Question) -> Finding
+    ensures preserved { (lines : List (List ℕ)) (switches : ℕ)
+        → PendsIn pending.old lines switches → PendsIn pending.new lines switches }
+    ensures answers { (lines : List (List ℕ)) (switches : ℕ) → PendsIn pending.old lines switches
+        → Answers lines switches question result }
+{
+    match pending {
+        Some(pending) => pending.answer(question),
+        None => Finding::Incomplete,
     }
 }
 
@@ -178,8 +192,11 @@ fn apply_and_note(
     event: Event,
 ) -> Result<Reply, AllocError>
     ensures history { IfOk result (Continues recorder.old recorder.new event) }
-    ensures noted { OnOk result ((lines : List (List ℕ)) → Pends pending.old lines
-        → Pends pending.new (lines ++ event_lines event)) }
+    ensures noted { OnOk result ((w : World) → StandsFor recorder.old.core w
+        → StandsFor recorder.new.core (at_event event w).world
+        → (lines : List (List ℕ)) (switches : ℕ) → Pends pending.old lines switches
+        → Pends pending.new (lines ++ event_lines event)
+        (switches + change (is_on w) (is_on (at_event event w).world))) }
     ensures err { OnErr result ((recorder.new ≡ recorder.old) × (pending.new ≡ pending.old)) }
     ensures unsure { OnErr result (¬ IsSure event) }
 {
@@ -187,7 +204,8 @@ fn apply_and_note(
         return recorder.apply(alloc, event);
     }
     let text = line_text(alloc, &event);
+    let before = recorder.core().output();
     let reply = recorder.apply(alloc, event)?;
-    pending.note(text);
+    pending.note(text, (before, recorder.core().output()));
     Ok(reply)
 }

@@ -66,7 +66,7 @@ returns-then-settle-clause-step g c =
         watches = c.settle.ensures.watches;
       },
       subst (λ (lines : ℕ). AreDurable g.D.Durability.is_durable c.settle.new.port.known.seen lines)
-          (found_count between.known.seen c.in_ok-reply.found
+          (found_count c.in_ok-reply.ensures.finds.0 between.known.seen c.in_ok-reply.found
           c.in-Count.lines c.in-Count.is c.in_ok-reply.ensures.finds.2)
           (c.settle.ensures.durable c.if-settle.true),
       λ changing. elim c.else-not-is_read.branch [
