@@ -6,6 +6,7 @@ use Rattle.std.proofs.lemmas.List.{take-append-le, take_all}
 use Rattle.std.specs.List.{AllByRecursion}
 use Rattle.text_lines.specs.Lines.{text_of, IsPlain}
 use Rattle.durable_lines.specs.CrashModel.{LeavesOnly}
+use Rattle.durable_lines.specs.FileModel.{FileModel}
 use Rattle.durable_lines.specs.Holding.{Holds}
 use Rattle.durable_lines.specs.Lines.{lines_in, IsSettled, IsText}
 use Rattle.durable_lines.proofs.LineLemmas.{lines_in-text_of}
@@ -121,49 +122,45 @@ module _ (Renews : List ℕ → List ℕ → Type 0) where
       let same : taken + length others ≡ count = omega (arith, rest.count_is, rest.within, size) in
       subst (λ n. IsSaved Renews first n q new) same now
 
-  -- ---- what a crash leaves
+-- ---- what a crash leaves
 
-  module _ {F : Type 0} (seen : F → List ℕ) (may_leave : F → List ℕ → Type 0)
-      (identity : F → ℕ) (stored : ℕ → List ℕ → Type 0) (moment : F → ℕ)
-      (left_since : F → ℕ → List ℕ → Type 0) where
-    -- a front of the lines of a text, after those that a file holds
-    abbrev pub HoldsMore : Lines → Lines → List ℕ → List ℕ → Type 0
-    HoldsMore first lines text c = (k : ℕ) × (k ≤ length (lines_in text))
-        × Holds Renews first (lines ++ take k (lines_in text)) c
+module _ {F : Type 0} (model : FileModel F) where
+  -- a front of the lines of a text, after those that a file holds
+  abbrev pub HoldsMore : Lines → Lines → List ℕ → List ℕ → Type 0
+  HoldsMore first lines text c = (k : ℕ) × (k ≤ length (lines_in text))
+      × Holds model.renews first (lines ++ take k (lines_in text)) c
 
-    -- a crash during the append of the further lines leaves a front of them
-    pub appended_leaves : (old new : F) (first : Lines) (taken count : ℕ) (text : List ℕ)
-        (p q : Calls) → StartsWith q p → IsRest (lines_of_calls q) taken text count
-        → IsSaved Renews first taken p (seen old)
-        → ((lines : Lines) → Holds Renews first lines (seen old)
-        → LeavesOnly moment left_since old new (HoldsMore first lines text))
-        → LeavesOnly moment left_since old new (IsSavedFrom Renews taken first q)
-    appended_leaves old new first taken count text p q starts rest saved leaves =
-        let all = lines_of_calls q in
-        let read = lines_taken all taken count text rest in
-        let now = saved_later first taken p q (seen old) starts saved in
-        leaves_as moment left_since old new (HoldsMore first (take taken all) text)
-        (IsSavedFrom Renews taken first q)
-        (λ c held. (
-          taken + held.0,
-          omega arith,
-          saved_front first taken held.0 q (seen old) c now
-              (subst (λ (ls : Lines). held.0 ≤ length ls) read held.1)
-              (subst (λ (ls : Lines). Holds Renews first (take taken all ++ take held.0 ls) c) read
-              held.2),
-        )) (leaves (take taken all) now.lines)
+  -- a crash during the append of the further lines leaves a front of them
+  pub appended_leaves : (old new : F) (first : Lines) (taken count : ℕ) (text : List ℕ)
+      (p q : Calls) → StartsWith q p → IsRest (lines_of_calls q) taken text count
+      → IsSaved model.renews first taken p (model.seen old)
+      → ((lines : Lines) → Holds model.renews first lines (model.seen old)
+      → LeavesOnly model old new (HoldsMore first lines text))
+      → LeavesOnly model old new (IsSavedFrom model.renews taken first q)
+  appended_leaves old new first taken count text p q starts rest saved leaves =
+      let all = lines_of_calls q in
+      let read = lines_taken all taken count text rest in
+      let now = saved_later model.renews first taken p q (model.seen old) starts saved in
+      leaves_as model old new (HoldsMore first (take taken all) text)
+      (IsSavedFrom model.renews taken first q)
+      (λ c held. (
+        taken + held.0,
+        omega arith,
+        saved_front model.renews first taken held.0 q (model.seen old) c now
+            (subst (λ (ls : Lines). held.0 ≤ length ls) read held.1)
+            (subst (λ (ls : Lines). Holds model.renews first (take taken all ++ take held.0 ls) c)
+            read held.2),
+      )) (leaves (take taken all) now.lines)
 
-    -- a file to which nothing was appended holds as many lines as before
-    pub unchanged_leaves : (old : F) (first : Lines) (taken : ℕ) (p q : Calls) → StartsWith q p
-        → IsSettled seen may_leave identity stored old
-        → ((c : List ℕ) → left_since old (moment old) c → may_leave old c)
-        → IsSaved Renews first taken p (seen old)
-        → LeavesOnly moment left_since old old (IsSavedFrom Renews taken first q)
-    unchanged_leaves old first taken p q starts settled only_now saved =
-        begin moment left_since old (IsSavedFrom Renews taken first q) (may_leave old) only_now
-        (λ c now. (
-          taken,
-          omega arith,
-          subst (IsSaved Renews first taken q) (sym (settled.durable c now))
-              (saved_later first taken p q (seen old) starts saved),
-        ))
+  -- a file to which nothing was appended holds as many lines as before
+  pub unchanged_leaves : (old : F) (first : Lines) (taken : ℕ) (p q : Calls) → StartsWith q p
+      → IsSettled model old → IsSaved model.renews first taken p (model.seen old)
+      → LeavesOnly model old old (IsSavedFrom model.renews taken first q)
+  unchanged_leaves old first taken p q starts settled saved =
+      begin model old (IsSavedFrom model.renews taken first q)
+      (λ c now. (
+        taken,
+        omega arith,
+        subst (IsSaved model.renews first taken q) (sym (settled.durable c now))
+            (saved_later model.renews first taken p q (model.seen old) starts saved),
+      ))

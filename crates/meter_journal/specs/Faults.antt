@@ -1,5 +1,4 @@
 -- Why a journal fails, and why it ends.
---     fault_number      the number of a fault
 --     FailsFor          what is known of a save that failed with a fault
 --     AreTurnsDrawn     a port has read that all turns of its lock were drawn
 --     HasFileFailed     the file with a number has failed
@@ -7,20 +6,15 @@
 --     EndsFor           why a journal ended
 use Rattle.std.specs.Prelude.{◌≡◌, ◌⊎◌, ⊤, ℕ, ◌≤◌}
 use Rattle.atomic_table.specs.Seated.{TableId}
+use Rattle.durable_lines.specs.FileModel.{FileModel}
 use Rattle.durable_lines.specs.declared.fault.FileFault.TheVariants.{Failed}
 use Rattle.meter_journal.specs.declared.fault.JournalFault.{JournalFault}
-use Rattle.meter_journal.specs.declared.fault.JournalFault.TheVariants.{Lines, Turns, File}
+use Rattle.meter_journal.specs.declared.fault.JournalFault.TheVariants.{Turns, File}
 use Rattle.shared_meter.specs.Handed.{MeterPort}
-
--- the number that a fault is converted to by `u8::from`
-abbrev pub fault_number : JournalFault → ℕ
-fault_number Lines = 1
-fault_number Turns = 2
-fault_number (File fault) = 3
 
 -- Whether a save may have failed with this fault: with `Turns` if all turns were drawn, and with
 -- `Failed` if the file has failed. Nothing is claimed of the other faults, which are `Lines`, as
--- nothing is claimed of an incomplete finding, and the file's `TooLong` and `Memory`.
+-- nothing is claimed of an incomplete finding, the file's `TooLong` and `Memory`, and `Relay`.
 abbrev pub FailsFor : (drawn failed : Type 0) → JournalFault → Type 0
 FailsFor drawn failed Turns = drawn
 FailsFor drawn failed (File Failed) = failed
@@ -31,17 +25,16 @@ abbrev pub AreTurnsDrawn : TableId → Type 0
 AreTurnsDrawn lock = (port : MeterPort) × (port.lock ≡ lock) × (port.bound ≤ port.known.drawn)
 
 -- whether the file with this number has failed
-abbrev pub HasFileFailed : {F : Type 0} → (has_failed : F → Type 0) → (identity : F → ℕ) → ℕ
-    → Type 0
-HasFileFailed {F} has_failed identity number =
-    (file : F) × (identity file ≡ number) × has_failed file
+abbrev pub HasFileFailed : {F : Type 0} → FileModel F → (number : ℕ) → Type 0
+HasFileFailed {F} model number =
+    (file : F) × (model.identity file ≡ number) × model.has_failed file
 
 -- whether a save of the lines of this lock to the file with this number may have failed with this
 -- fault
-abbrev pub IsSaveFault : {F : Type 0} → (has_failed : F → Type 0) → (identity : F → ℕ)
-    → (number : ℕ) → (lock : TableId) → JournalFault → Type 0
-IsSaveFault has_failed identity number lock =
-    FailsFor (AreTurnsDrawn lock) (HasFileFailed has_failed identity number)
+abbrev pub IsSaveFault : {F : Type 0} → FileModel F → (number : ℕ) → (lock : TableId)
+    → JournalFault → Type 0
+IsSaveFault model number lock =
+    FailsFor (AreTurnsDrawn lock) (HasFileFailed model number)
 
 -- whether a journal was asked to stop, or has failed with a fault that it may have
 abbrev pub EndsFor : (MayStop : Type 0) → (MayFail : JournalFault → Type 0) → Type 0

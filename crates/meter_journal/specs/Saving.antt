@@ -3,16 +3,22 @@
 --     IsSavedFrom    these, with a front of at least a number of lines
 --     IsFileOf       a file with a number, and the lines that it has
 --     IsSynced       a sync of a file returned while it had the first lines of a history
---     IsStored       it did so for the history of a lock
+--     AreOnDisk      it did so, if files of its type act as the crash model has them
+--     AreStored      the first lines of the history of a lock are on the disk
 --     Leaves         what the worker of a journal leaves of its file
 --     Keeps          what the worker of a journal does
-use Rattle.std.specs.Prelude.{◌≡◌, ℕ, ◌≤◌, List, length, take, IfErr, IfOk, OnOk, Result}
+use Rattle.std.specs.Prelude.{◌≡◌, ℕ, ◌≤◌, List, length, take, IfErr, IfOk, IfSome, OnOk, Option}
+use Rattle.std.specs.Prelude.{Some, Result}
 use Rattle.durable_lines.specs.CrashModel.{LeavesOnly}
+use Rattle.durable_lines.specs.FileModel.{FileModel}
 use Rattle.durable_lines.specs.Holding.{Holds}
 use Rattle.durable_lines.specs.Lines.{lines_in}
 use Rattle.relay_core.specs.declared.opening.Opening.{Opening}
 use Rattle.meter_journal.specs.Faults.{FailsFor}
+use Rattle.meter_journal.specs.Relaying.{IsRelayed, OnRelay}
 use Rattle.meter_journal.specs.declared.fault.JournalFault.{JournalFault}
+use Rattle.meter_journal.specs.declared.journal.JournalEnd.{JournalEnd}
+use Rattle.meter_journal.specs.declared.journal.JournalParts.{JournalParts}
 use Rattle.turn_lock.specs.Calls.{Watches}
 use Rattle.turn_lock.specs.Shown.{IsSame}
 use Rattle.shared_meter.specs.Calls.{Calls, IsLegal}
@@ -36,58 +42,65 @@ IsAllSaved Renews first calls file =
     IsSaved Renews first (length (lines_of_calls calls)) calls file
 
 -- whether this is the file with the number, and has these lines
-pub record IsFileOf {F : Type 0} (seen : F → List ℕ) (identity : F → ℕ) (number : ℕ)
-    (first : List (List ℕ)) (file : F) : Type 0 where
-  pub number_is : identity file ≡ number
-  pub lines : lines_in (seen file) ≡ first
+pub record IsFileOf {F : Type 0} (model : FileModel F) (number : ℕ) (first : List (List ℕ))
+    (file : F) : Type 0 where
+  pub number_is : model.identity file ≡ number
+  pub lines : lines_in (model.seen file) ≡ first
 
--- Whether a sync of a file returned while it held the lines that it had first, followed by the
--- first n lines of the history. `stored` has the bytes that the file had when a sync returned.
-pub record IsSynced (Renews : List ℕ → List ℕ → Type 0) (stored : List ℕ → Type 0)
-    (first : List (List ℕ)) (calls : Calls) (n : ℕ) : Type 0 where
+-- Whether a sync of the file with this number returned while it held the lines that it had first,
+-- followed by the first n lines of the history.
+pub record IsSynced {F : Type 0} (model : FileModel F) (number : ℕ) (first : List (List ℕ))
+    (calls : Calls) (n : ℕ) : Type 0 where
   pub file : List ℕ
-  pub kept : stored file
-  pub saved : IsSaved Renews first n calls file
+  pub kept : model.stored number file
+  pub saved : IsSaved model.renews first n calls file
 
--- whether a sync of a file returned while it held the lines that it had first, followed by the
--- first n lines of a legal history
-pub record IsStored (Renews : List ℕ → List ℕ → Type 0) (stored : List ℕ → Type 0)
-    (first : List (List ℕ)) (n : ℕ) : Type 0 where
+-- whether the first n lines of these calls are on the disk, after those that the file had first, if
+-- files of its type act as the crash model has them
+abbrev pub AreOnDisk : {F : Type 0} → FileModel F → (number : ℕ) → (first : List (List ℕ))
+    → Calls → ℕ → Type 0
+AreOnDisk model number first calls n = model.acts → IsSynced model number first calls n
+
+-- whether the first n lines of a legal history are on the disk
+pub record AreStored {F : Type 0} (model : FileModel F) (number : ℕ) (first : List (List ℕ))
+    (n : ℕ) : Type 0 where
   pub origin : Opening
   pub calls : Calls
   pub lawful : IsLegal origin calls
-  pub synced : IsSynced Renews stored first calls n
+  pub on_disk : AreOnDisk model number first calls n
 
 -- Whether the file is the same one after the worker's run, and a crash at any moment of the run
 -- leaves a file that holds the lines that it had first, followed by a front of the lines of the
 -- history. If the worker ended as it was asked to, every later crash leaves all lines.
-pub record Leaves {F : Type 0} (identity : F → ℕ) (seen : F → List ℕ)
-    (may_leave : F → List ℕ → Type 0) (moment : F → ℕ) (left_since : F → ℕ → List ℕ → Type 0)
-    (Renews : List ℕ → List ℕ → Type 0)
-    (began ended : F) (calls : Calls) (end : Result ℕ JournalFault) : Type 0 where
-  pub one_file : identity ended ≡ identity began
-  pub any_moment : LeavesOnly moment left_since began ended
-      (IsSavedFrom Renews 0 (lines_in (seen began)) calls)
-  pub all : OnOk end
-      ((c : List ℕ) → may_leave ended c → IsAllSaved Renews (lines_in (seen began)) calls c)
+pub record Leaves {F : Type 0} (model : FileModel F) (began ended : F) (calls : Calls)
+    (saved : Result ℕ JournalFault) : Type 0 where
+  pub one_file : model.identity ended ≡ model.identity began
+  pub any_moment : LeavesOnly model began ended
+      (IsSavedFrom model.renews 0 (lines_in (model.seen began)) calls)
+  pub all : OnOk saved ((c : List ℕ) → model.may_leave ended c
+      → IsAllSaved model.renews (lines_in (model.seen began)) calls c)
 
--- Whether the journal's worker, whose port was p and is q, ended with this file and this result,
--- and made no call. It ended without a fault only if the journal may end, which it learns by being
--- asked to stop, and then returned the number of lines of the history. Its fault is that of a save:
--- `Turns` only if q has read that all turns were drawn, and `Failed` only if the file has failed;
--- the action for failures was called with it. The file was `began`, and is left as `Leaves` states
--- if files of its type act as the crash model has them.
-pub record Keeps {F : Type 0} (acts : Type 0) (identity : F → ℕ) (seen : F → List ℕ)
-    (may_leave : F → List ℕ → Type 0) (moment : F → ℕ) (left_since : F → ℕ → List ℕ → Type 0)
-    (Renews : List ℕ → List ℕ → Type 0) (has_failed : F → Type 0) (MayEnd : Type 0)
-    (HasActed : JournalFault → Type 0) (began : F) (p q : MeterPort)
-    (end : F × Result ℕ JournalFault) : Type 0 where
+-- Whether the journal's worker, whose port was p and is q, ended in this way, and made no call. It
+-- ended without a fault only if the journal may end, which it learns by being asked to stop, and
+-- then returned the number of lines of the history. Its fault is that of a save: `Turns` only if q
+-- has read that all turns were drawn, and `Failed` only if the file has failed; the action for
+-- failures was called with it. The file is left as `Leaves` states if files of its type act as the
+-- crash model has them, and the relay was given what `IsRelayed` states, if it had been given no
+-- change before.
+pub record Keeps {F W : Type 0} (model : FileModel F) (contents : W → Option (List ℕ))
+    (MayEnd : Type 0) (HasActed : JournalFault → Type 0) (began : JournalParts F W)
+    (p q : MeterPort) (end : JournalEnd F W) : Type 0 where
   pub same : IsSame p q
   pub watches : Watches IsLegal p.known q.known
-  pub one_file : identity end.0 ≡ identity began
-  pub may_end : OnOk end.1 MayEnd
-  pub counted : IfOk end.1 (λ count. count ≡ length (lines_of_calls q.known.seen))
-  pub acted : IfErr end.1 HasActed
-  pub cause : IfErr end.1 (FailsFor (q.bound ≤ q.known.drawn) (has_failed end.0))
-  pub leaves : acts
-      → Leaves identity seen may_leave moment left_since Renews began end.0 q.known.seen end.1
+  pub one_file : model.identity end.parts.file ≡ model.identity began.file
+  pub may_end : OnOk end.saved MayEnd
+  pub counted : IfOk end.saved (λ count. count ≡ length (lines_of_calls q.known.seen))
+  pub acted : IfErr end.saved HasActed
+  pub cause : IfErr end.saved
+      (FailsFor (q.bound ≤ q.known.drawn) (model.has_failed end.parts.file))
+  pub leaves : model.acts → Leaves model began.file end.parts.file q.known.seen end.saved
+  pub relayed : (origin : Opening) → q.known.origin ≡ Some origin
+      → IfSome began.relay (λ relay. relay.given ≡ 0)
+      → OnRelay (IsRelayed contents (AreOnDisk model (model.identity began.file)
+      (lines_in (model.seen began.file))) origin q.known.seen end.saved)
+      began.relay end.parts.relay

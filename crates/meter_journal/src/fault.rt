@@ -1,7 +1,4 @@
 //! Why a journal fails.
-ghost use Rattle.std.specs.Prelude.{◌≡◌};
-ghost use Rattle.meter_journal.specs.Faults.{fault_number};
-
 use durable_lines::FileFault;
 use thiserror::Error;
 
@@ -18,17 +15,7 @@ pub enum JournalFault {
     /// A call on the file failed.
     #[error("{0}")]
     File(FileFault),
-}
-
-/// Returns the number of the fault, 1 to 3.
-impl From<JournalFault> for u8 {
-    ghost from_gives = { λ fault number. number ≡ fault_number fault };
-
-    fn from(fault: JournalFault) -> u8 {
-        match fault {
-            JournalFault::Lines => 1,
-            JournalFault::Turns => 2,
-            JournalFault::File(_) => 3,
-        }
-    }
+    /// The supply output could not be written.
+    #[error("the output can't be written")]
+    Relay,
 }

@@ -5,7 +5,7 @@ ghost use Rattle.turn_lock.specs.Calls.{Watches};
 ghost use Rattle.turn_lock.specs.Shown.{IsSame};
 ghost use Rattle.shared_meter.specs.Calls.{IsLegal};
 ghost use Rattle.shared_meter.specs.Settling.{AreDurable};
-ghost use Rattle.meter_journal.specs.Saving.{IsSynced};
+ghost use Rattle.meter_journal.specs.Saving.{AreOnDisk};
 ghost use Rattle.meter_journal.specs.declared.fault.JournalFault.{JournalFault};
 
 use durable_lines::DurableFile;
@@ -76,15 +76,14 @@ impl<F: DurableFile, L: JournalIdentity> Model for LastSave<F, L> {
     ghost view = { λ s. s.count };
 
     ghost invariant = { λ s. (s.note.lock ≡ L.lock)
-        × (F.acts_as_file → IsSynced F.renews (F.stored L.file) L.first s.note.seen s.count) };
+        × (AreOnDisk F.model L.file L.first s.note.seen s.count) };
 }
 
 impl<F: DurableFile, L: JournalIdentity> LastSave<F, L> {
     // Returns a save of the first lines of the port's history, of this number.
     pub(crate) fn new(port: &mut Port<Kept>, count: u64) -> LastSave<F, L>
         requires lock { port.old.lock ≡ L.lock }
-        requires synced { F.acts_as_file
-            → IsSynced F.renews (F.stored L.file) L.first port.old.known.seen count }
+        requires synced { AreOnDisk F.model L.file L.first port.old.known.seen count }
         ensures { port.new ≡ port.old }
     {
         LastSave {
@@ -97,8 +96,7 @@ impl<F: DurableFile, L: JournalIdentity> LastSave<F, L> {
     // Records that the first lines of the port's history, of this number, are on the disk.
     pub(crate) fn update(&mut self, port: &mut Port<Kept>, count: u64)
         requires lock { port.old.lock ≡ L.lock }
-        requires synced { F.acts_as_file
-            → IsSynced F.renews (F.stored L.file) L.first port.old.known.seen count }
+        requires synced { AreOnDisk F.model L.file L.first port.old.known.seen count }
         ensures { port.new ≡ port.old }
     {
         self.count = count;
@@ -110,9 +108,7 @@ impl<F: DurableFile, L: JournalIdentity> LastSave<F, L> {
         requires { port.old.lock ≡ L.lock }
         ensures same { IsSame port.old port.new }
         ensures watches { Watches IsLegal port.old.known port.new.known }
-        ensures durable { AreDurable
-            (λ calls n. F.acts_as_file → IsSynced F.renews (F.stored L.file) L.first calls n)
-            port.new.known.seen result }
+        ensures durable { AreDurable (AreOnDisk F.model L.file L.first) port.new.known.seen result }
     {
         let own = port.tell();
         let note = mem::replace(&mut self.note, own);

@@ -1,9 +1,9 @@
 //! `JournalProgress`: how many lines of a journal are on the disk, for the sessions that wait for
 //! theirs.
 ghost use Rattle.std.specs.Prelude.{◌≡◌, ◌<◌, false, IsTrue, OnOk};
-ghost use Rattle.durable_lines.specs.Lines.{IsSettled};
+ghost use Rattle.durable_lines.specs.Lines.{IsReady};
 ghost use Rattle.meter_journal.specs.Faults.{EndsFor};
-ghost use Rattle.meter_journal.specs.Saving.{IsFileOf, IsStored, IsSynced};
+ghost use Rattle.meter_journal.specs.Saving.{AreOnDisk, AreStored, IsFileOf};
 ghost use Rattle.meter_journal.specs.declared.fault.JournalFault.{JournalFault};
 
 use crate::fault::JournalFault;
@@ -33,7 +33,7 @@ const GATHERING: u64 = 200;
 struct StoredLines<F, L>(PhantomData<(F, L)>);
 
 impl<F: DurableFile, L: JournalIdentity> Rule for StoredLines<F, L> {
-    ghost invariant = { λ n. F.acts_as_file → IsStored F.renews (F.stored L.file) L.first n };
+    ghost invariant = { λ n. AreStored F.model L.file L.first n };
 }
 
 // The rule of the flag that is 1 once the journal was asked to stop: only who may end it asks. No
@@ -141,12 +141,10 @@ impl<F: DurableFile, L: JournalIdentity> JournalProgress<F, L> {
         file: &F,
     ) -> Result<JournalProgress<F, L>, AllocError>
         requires lock { port.old.lock ≡ L.lock }
-        requires file { IsFileOf F.seen F.identity L.file L.first file.now }
-        requires settled { F.acts_as_file
-            → IsSettled F.seen F.may_leave F.identity F.stored file.now }
+        requires file { IsFileOf F.model L.file L.first file.now }
+        requires settled { IsReady F.model file.now }
         ensures port { port.new ≡ port.old }
-        ensures stored { OnOk result (F.acts_as_file
-            → IsStored F.renews (F.stored L.file) L.first 0) }
+        ensures stored { OnOk result (AreStored F.model L.file L.first 0) }
     {
         // (no effect: the contract needs this law)
         port.history_is_legal();
@@ -169,7 +167,7 @@ impl<F: DurableFile, L: JournalIdentity> JournalProgress<F, L> {
 
     /// Returns the number of lines that are on the disk.
     pub fn lines(&self) -> u64
-        ensures { F.acts_as_file → IsStored F.renews (F.stored L.file) L.first result }
+        ensures { AreStored F.model L.file L.first result }
     {
         self.state.lines.load(Ordering::SeqCst)
     }
@@ -180,8 +178,7 @@ impl<F: DurableFile, L: JournalIdentity> JournalProgress<F, L> {
     // others the next one. Only the worker calls it.
     pub(crate) fn announce<W: Wait>(&self, rt: &W, port: &mut Port<Kept>, lines: u64)
         requires lock { port.old.lock ≡ L.lock }
-        requires synced { F.acts_as_file
-            → IsSynced F.renews (F.stored L.file) L.first port.old.known.seen lines }
+        requires synced { AreOnDisk F.model L.file L.first port.old.known.seen lines }
         ensures { port.new ≡ port.old }
     {
         // (no effect: the contract needs this law)
@@ -257,8 +254,7 @@ impl<F: DurableFile, L: JournalIdentity> JournalProgress<F, L> {
 impl<F: DurableFile, L: JournalIdentity> Durability for JournalProgress<F, L> {
     ghost fits = { λ lock. lock ≡ L.lock };
 
-    ghost is_durable = { λ calls lines. F.acts_as_file
-        → IsSynced F.renews (F.stored L.file) L.first calls lines };
+    ghost is_durable = { AreOnDisk F.model L.file L.first };
 
     ghost has_ended = { EndsFor L.may_end L.may_fail };
 

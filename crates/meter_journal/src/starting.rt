@@ -4,9 +4,10 @@ ghost use Rattle.port_threads.specs.Ports.{AreJoined, PortContinues, SplitsOff};
 ghost use Rattle.port_threads.specs.Workers.{ReturnsPort};
 ghost use Rattle.meter_journal.specs.Saving.{Keeps};
 
-use crate::fault::JournalFault;
+use crate::journal::JournalEnd;
 use crate::last_save::JournalIdentity;
 use crate::progress::JournalProgress;
+use crate::relay::SupplyOutput;
 use crate::worker::{FailureAction, JournalWorker};
 use durable_lines::DurableFile;
 use port_threads::{WorkerThread, join_worker, start_worker};
@@ -17,10 +18,10 @@ use std::thread::Threads;
 use turn_lock::Port;
 
 /// The handle of a running journal's thread.
-pub type JournalThread<F, A, L> = WorkerThread<
+pub type JournalThread<F, W, A, L> = WorkerThread<
     Kept,
-    JournalWorker<F, A, L>,
-    (F, Result<u64, JournalFault>),
+    JournalWorker<F, W, A, L>,
+    JournalEnd<F, W>,
 >;
 
 /// Starts a thread for the worker of a journal, with a port split off from this one. Returns `None`
@@ -29,16 +30,17 @@ pub type JournalThread<F, A, L> = WorkerThread<
 /// lost.
 pub fn start_journal<
     F: DurableFile + Send + 'static,
+    W: SupplyOutput + Send + 'static,
     A: FailureAction + 'static,
     L: JournalIdentity + Send + Sync + 'static,
     R: Threads + Wait + Copy + Send + 'static,
 >(
     rt: &R,
     alloc: Global,
-    worker: JournalWorker<F, A, L>,
+    worker: JournalWorker<F, W, A, L>,
     progress: &JournalProgress<F, L>,
     port: &mut Port<Kept>,
-) -> Option<JournalThread<F, A, L>>
+) -> Option<JournalThread<F, W, A, L>>
     requires lock { port.old.lock ≡ L.lock }
     requires may_end { L.may_end }
     ensures worker { IfSome result (λ running. running.promise.worker.value ≡ worker) }
@@ -56,24 +58,23 @@ pub fn start_journal<
 }
 
 /// Asks the worker of a journal to save the lines that have been noted, waits for its end, and
-/// joins its port in. Returns the file, and the number of lines of the history that its port has
-/// seen, or the fault of the journal if it has failed. Returns `None` if the work was not started.
+/// joins its port in. Returns how the worker ended, or `None` if the work was not started.
 pub fn stop_journal<
     F: DurableFile + Send,
+    W: SupplyOutput + Send,
     A: FailureAction,
     L: JournalIdentity + Send + Sync,
     R: Threads,
 >(
     rt: &R,
-    running: JournalThread<F, A, L>,
+    running: JournalThread<F, W, A, L>,
     progress: &JournalProgress<F, L>,
     port: &mut Port<Kept>,
-) -> Option<(F, Result<u64, JournalFault>)>
+) -> Option<JournalEnd<F, W>>
     requires lock { running.promise.port.value.lock ≡ port.old.lock }
     requires may_end { L.may_end }
     ensures { let task = running.promise
-        in ReturnsPort (Keeps F.acts_as_file F.identity F.seen F.may_leave F.moment F.left_since
-        F.renews F.has_failed L.may_end A.has_acted task.worker.value)
+        in ReturnsPort (Keeps F.model W.contents L.may_end A.has_acted task.worker.value)
         task.port.value result port.old port.new }
 {
     progress.stop();

@@ -1,14 +1,16 @@
-//! The worker that writes a journal, in a thread of its own.
+//! The worker that writes a journal and gives a relay each change, in a thread of its own.
 ghost use Rattle.std.specs.Prelude.{◌≡◌, ⊤, IfOk};
-ghost use Rattle.durable_lines.specs.Lines.{IsSettled};
+ghost use Rattle.durable_lines.specs.Lines.{IsReady};
 ghost use Rattle.meter_journal.specs.Faults.{IsSaveFault};
 ghost use Rattle.meter_journal.specs.Saving.{IsFileOf};
 ghost use Rattle.meter_journal.specs.declared.fault.JournalFault.{JournalFault};
 
 use crate::fault::JournalFault;
+use crate::journal::{JournalEnd, JournalParts, MeterJournal};
 use crate::keeping::keep_lines;
 use crate::last_save::JournalIdentity;
 use crate::progress::JournalProgress;
+use crate::relay::SupplyOutput;
 use durable_lines::DurableFile;
 use port_threads::Worker;
 use shared_meter::{Durability, Kept};
@@ -17,7 +19,7 @@ use std::marker::Model;
 use std::sync::Wait;
 use turn_lock::Port;
 
-/// What is done when a journal fails, such as to stop the server.
+/// What is done when a journal or its relay fails, such as to stop the server.
 pub trait FailureAction: Drop + Send {
     /// Ghost predicate: it was called with this fault. The default claims nothing.
     ghost has_acted: { JournalFault → Type 0 } = { λ _. ⊤ };
@@ -29,51 +31,63 @@ pub trait FailureAction: Drop + Send {
         ensures { has_acted fault };
 }
 
-/// The worker of a journal: it saves the lines of the meter's events to its file, and announces
-/// them, until the journal is stopped or fails. Its file has whole lines, and all of them are on
-/// the disk. It works through a port of the lock of `L`, and its journal may fail with each fault
-/// of a save. Contracts see the file.
+/// The worker of a journal: it saves the lines of the meter's events to its file, gives the relay
+/// the changes of the supply output by the events that are on the disk, and announces them, until
+/// the journal is stopped or fails. Its file has whole lines, and all of them are on the disk. It
+/// works through a port of the lock of `L`, and its journal may fail with each fault of a save.
+/// Contracts see the file and the relay.
 #[derive(Drop)]
-pub struct JournalWorker<F: DurableFile, A: FailureAction, L: JournalIdentity> {
-    file: F,
+pub struct JournalWorker<F: DurableFile, W: SupplyOutput, A: FailureAction, L: JournalIdentity> {
+    parts: JournalParts<F, W>,
     progress: JournalProgress<F, L>,
     on_failure: A,
     // Memory for the text of the next save.
     room: Vec<u8>,
 }
 
-impl<F: DurableFile, A: FailureAction, L: JournalIdentity> Model for JournalWorker<F, A, L> {
-    ghost Value = { F };
+impl<F: DurableFile, W: SupplyOutput, A: FailureAction, L: JournalIdentity> Model
+    for JournalWorker<F, W, A, L> {
+    ghost use Rattle.durable_lines.specs.Lines.{IsReady};
+    ghost use Rattle.meter_journal.specs.Faults.{IsSaveFault};
+    ghost use Rattle.meter_journal.specs.Saving.{IsFileOf};
+    ghost use Rattle.meter_journal.specs.declared.fault.JournalFault.{JournalFault};
+    ghost use Rattle.meter_journal.specs.declared.journal.JournalParts.{JournalParts};
 
-    ghost view = { λ w. w.file };
+    ghost Value = { JournalParts F W };
 
-    ghost invariant = { λ w. IsFileOf F.seen F.identity L.file L.first w.file
-        × (F.acts_as_file → IsSettled F.seen F.may_leave F.identity F.stored w.file)
-        × ((fault : JournalFault) → IsSaveFault F.has_failed F.identity L.file L.lock fault
-        → L.may_fail fault) };
+    ghost view = { λ w. w.parts };
+
+    ghost invariant = { λ w. IsFileOf F.model L.file L.first w.parts.file
+        × IsReady F.model w.parts.file
+        × ((fault : JournalFault) → IsSaveFault F.model L.file L.lock fault → L.may_fail fault) };
 }
 
-impl<F: DurableFile, A: FailureAction, L: JournalIdentity> JournalWorker<F, A, L> {
+impl<F: DurableFile, W: SupplyOutput, A: FailureAction, L: JournalIdentity> JournalWorker<
+    F,
+    W,
+    A,
+    L,
+> {
     /// Makes the worker of a journal that was recovered or begun, so that its file has whole lines
     /// and all of them are on the disk. `room` is the memory for the text of the next save, in
     /// bytes; more is allocated if it does not suffice. Errors: `AllocError`.
     pub fn new(
         alloc: Global,
-        file: F,
+        journal: MeterJournal<F, W, A>,
         progress: &JournalProgress<F, L>,
-        on_failure: A,
         room: usize,
-    ) -> Result<JournalWorker<F, A, L>, AllocError>
-        requires file { IsFileOf F.seen F.identity L.file L.first file }
-        requires settled { F.acts_as_file → IsSettled F.seen F.may_leave F.identity F.stored file }
+    ) -> Result<JournalWorker<F, W, A, L>, AllocError>
+        requires file { IsFileOf F.model L.file L.first journal.parts.file }
+        requires settled { IsReady F.model journal.parts.file }
         requires may_fail { (fault : JournalFault)
-            → IsSaveFault F.has_failed F.identity L.file L.lock fault → L.may_fail fault }
-        ensures { IfOk result (λ worker. worker ≡ file) }
+            → IsSaveFault F.model L.file L.lock fault → L.may_fail fault }
+        ensures { IfOk result (λ worker. worker ≡ journal.parts) }
     {
+        let MeterJournal { parts, on_failure } = journal;
         let mut text = Vec::new(alloc);
         text.reserve(room)?;
         Ok(JournalWorker {
-            file,
+            parts,
             progress: progress.share()?,
             on_failure,
             room: text,
@@ -81,43 +95,44 @@ impl<F: DurableFile, A: FailureAction, L: JournalIdentity> JournalWorker<F, A, L
     }
 }
 
-impl<F: DurableFile + Send, A: FailureAction, L: JournalIdentity + Send + Sync> Worker<Port<Kept>>
-    for JournalWorker<F, A, L> {
+impl<
+    F: DurableFile + Send,
+    W: SupplyOutput + Send,
+    A: FailureAction,
+    L: JournalIdentity + Send + Sync,
+> Worker<Port<Kept>> for JournalWorker<F, W, A, L> {
     ghost use Rattle.meter_journal.specs.Saving.{Keeps};
 
     ghost fits = { λ port. port.lock ≡ L.lock };
 
-    type End = (F, Result<u64, JournalFault>);
+    type End = JournalEnd<F, W>;
 
-    ghost did = { λ worker p q end. Keeps F.acts_as_file F.identity F.seen F.may_leave F.moment
-        F.left_since
-        F.renews F.has_failed L.may_end A.has_acted worker p q end };
+    ghost did = { λ worker p q end.
+        Keeps F.model W.contents L.may_end A.has_acted worker p q end };
 
-    /// Saves lines until the journal is stopped, and returns the file and the number of lines of
-    /// the history, all of which it has. The error is that of a save.
-    fn work<W: Wait>(
+    /// Saves lines until the journal is stopped, and returns the file, the relay, and the number of
+    /// lines of the history, all of which the file has. The error is that of a save, or `Relay`.
+    fn work<R: Wait>(
         self,
-        rt: &W,
+        rt: &R,
         alloc: Global,
         port: Port<Kept>,
-    ) -> (Port<Kept>, (F, Result<u64, JournalFault>)) {
+    ) -> (Port<Kept>, JournalEnd<F, W>) {
         let JournalWorker {
-            mut file,
+            mut parts,
             progress,
             on_failure,
             room,
         } = self;
         let mut port = port;
-        match keep_lines(rt, alloc, &mut port, &mut file, &progress, room) {
-            Ok(count) => {
-                progress.end();
-                (port, (file, Ok(count)))
-            }
+        let saved = keep_lines(rt, alloc, &mut port, &mut parts, &progress, room);
+        match saved {
+            Ok(_) => progress.end(),
             Err(fault) => {
                 progress.fail(fault);
                 on_failure.act(fault);
-                (port, (file, Err(fault)))
             }
         }
+        (port, JournalEnd { parts, saved })
     }
 }

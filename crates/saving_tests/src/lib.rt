@@ -1,7 +1,7 @@
 //! Tests of journals: the worker, with what a file has after a save and after a crash, and what a
 //! session learns that waits for its lines; the files, which are renewed also while their meter
 //! runs, with what a crash at each moment leaves, in memory. Also tests the relay that is given
-//! what a file has (`meter_relay`). tests/journal.py plays journals of the operating system:
+//! the changes of the supply output. tests/journal.py plays journals of the operating system:
 //! begun, left by a killed server, resumed, refused, and renewed.
 //!
 //! Tests are in a crate of their own because a check of tests proves their whole crate again.

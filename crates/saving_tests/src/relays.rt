@@ -1,99 +1,96 @@
-//! Tests of a relay: the order of disk and relay, and a line that is not that of an event.
-//! tests/relay.py plays the relay of a server, also one that cannot be written.
-use cosem_axdr::Octets;
-use durable_lines::{DurableFile, FileFault, MemoryFile};
-use meter_relay::{ChangeReport, Relay, RelayFault, RelayedFile, follow_text};
-use relay_core::RelayCore;
+//! Tests of a relay: it is given the supply output and each change, by their number.
+//! tests/relay.py plays the relay of a server, also one that cannot be written, and the order of
+//! disk and relay.
+use meter_journal::{JournalFault, Relay, SupplyOutput};
 use std::alloc::Global;
+use std::io;
+use std::io::{ErrorKind, Write};
 use std::test::Fail;
 
-// The first events of the worked trace of docs/TRACE.md: mode 1, a client disconnects, the button
-// is refused, the client allows the reconnection. The supply stays off.
-static OFF: &[u8] = b"set 1 70 000060030AFF 4 0 1601
-execute 1 70 000060030AFF 1 0F00
-button
-execute 1 70 000060030AFF 2 -
-";
-
-// A report that is dropped.
+/// An output in memory that takes at most `left` bytes, three at a time.
 #[derive(Drop)]
-struct NoReport;
-
-impl ChangeReport for NoReport {
-    fn report_change(&self, _output: bool, _cause: &[u8]) {}
-
-    fn report_fault(&self, _fault: RelayFault) {}
+pub(crate) struct Given {
+    text: Vec<u8>,
+    left: usize,
 }
 
-// Returns the relay of a new meter, whose output is in memory.
-fn new_relay(alloc: Global) -> Result<Relay<Vec<u8>, NoReport>, Fail> {
-    let device = Octets::from_slice(alloc, b"RELAY1")?;
-    let core = RelayCore::new(alloc, &device)?;
-    match Relay::start(core, Vec::new(alloc), NoReport) {
-        Ok(relay) => Ok(relay),
-        Err(_) => Err(Fail::from("no relay")),
+impl Write for Given {
+    fn write(&mut self, bytes: &[u8]) -> io::Result<usize> {
+        let count = bytes.len().min(self.left).min(3);
+        let (front, _) = bytes.split_at(count);
+        match self.text.extend_from_slice(front) {
+            Ok(()) => {
+                self.left -= count;
+                Ok(count)
+            }
+            Err(_) => Err(io::Error::from(ErrorKind::OutOfMemory)),
+        }
+    }
+
+    fn flush(&mut self) -> io::Result<()> {
+        Ok(())
     }
 }
 
-#[test]
-fn a_line_of_other_words_is_a_fault(rt: HostRuntime) -> Result<(), Fail> {
-    let mut relay = new_relay(rt.alloc())?;
-    let off = follow_text(rt.alloc(), &mut relay, OFF);
-    let wrong = follow_text(rt.alloc(), &mut relay, b"button\npress\n");
-    let is_given = relay.output().as_slice() == b"1\n0\n1\n".as_slice();
-    drop(relay);
-    assert!(rt; off == Ok(()) && wrong == Err(RelayFault::Line) && is_given);
-    Ok(())
+impl SupplyOutput for Given {
+    fn report_change(&self, _is_on: bool) {}
+
+    fn report_failure(&self) {}
 }
 
-// Returns whether the relay of a file was given this text.
-fn is_given(file: &RelayedFile<MemoryFile, Vec<u8>, NoReport>, given: &[u8]) -> bool {
-    match file.relay() {
-        Some(relay) => relay.output().as_slice() == given,
-        None => false,
-    }
+// Returns the relay of a meter whose supply is on, with an output that takes `left` bytes.
+fn new_relay(alloc: Global, left: usize) -> Result<Relay<Given>, JournalFault> {
+    let output = Given {
+        text: Vec::new(alloc),
+        left,
+    };
+    Relay::start(true, output)
 }
 
-// Lines that are appended to a file, whether the sync after that returns `Ok`, and what the relay
-// was given before it and after it: after `OFF` the button, no line, a line that a failed sync does
-// not give, and one that is not appended.
-static SYNCS: [(&[u8], bool, &[u8], &[u8]); 4] = [
-    (b"button\n", true, b"1\n0\n", b"1\n0\n1\n"),
-    (b"", true, b"1\n0\n1\n", b"1\n0\n1\n"),
-    (
-        b"execute 1 70 000060030AFF 1 0F00\n",
-        false,
-        b"1\n0\n1\n",
-        b"1\n0\n1\n",
-    ),
-    (b"button\n", false, b"1\n0\n1\n", b"1\n0\n1\n"),
+// The numbers of changes that a relay is given, one after the other, and its text after them: one
+// change, three at once, none, and fewer than it was given before.
+static STEPS: [(u64, &[u8]); 4] = [
+    (1, b"1\n0\n"),
+    (4, b"1\n0\n1\n0\n1\n"),
+    (4, b"1\n0\n1\n0\n1\n"),
+    (2, b"1\n0\n1\n0\n1\n"),
 ];
 
-// Returns whether the relay of a file is given a change after the sync, and none once a sync has
-// failed.
-fn follows_syncs(file: &mut RelayedFile<MemoryFile, Vec<u8>, NoReport>) -> bool {
-    if file.append(OFF) != Ok(()) || !is_given(file, b"1\n") || file.sync() != Ok(()) {
-        return false;
-    }
-    for (lines, is_synced, before, after) in &SYNCS {
-        let appended = file.append(lines).is_ok();
-        let waits = is_given(file, before);
-        let synced = file.sync().is_ok();
-        if !waits || synced != *is_synced || synced && !appended || !is_given(file, after) {
+// Returns whether a relay was given this text.
+fn is_given(relay: &Relay<Given>, text: &[u8]) -> bool {
+    relay.output().text.as_slice() == text
+}
+
+// Returns whether a relay is given these changes.
+fn follows_steps(relay: &mut Relay<Given>) -> bool {
+    for (switches, text) in &STEPS {
+        if relay.follow(*switches) != Ok(()) || !is_given(relay, text) {
             return false;
         }
     }
-    file.append(b"button\n") == Err(FileFault::Failed)
+    true
 }
 
 #[test]
-fn a_change_is_given_after_the_sync(rt: HostRuntime) -> Result<(), Fail> {
-    let alloc = rt.alloc();
-    let relay = new_relay(alloc)?;
-    let disk = MemoryFile::failing_after(alloc, Vec::new(alloc), 3);
-    let mut file = RelayedFile::new(alloc, disk, Some(relay));
-    let follows = follows_syncs(&mut file);
-    drop(file);
+fn each_change_is_the_other_output(rt: HostRuntime) -> Result<(), Fail> {
+    let Ok(mut relay) = new_relay(rt.alloc(), 64) else {
+        return Err(Fail::from("no relay"));
+    };
+    let follows = follows_steps(&mut relay);
+    drop(relay);
     assert!(rt; follows);
+    Ok(())
+}
+
+#[test]
+fn a_relay_stops_at_a_line_that_is_not_written_whole(rt: HostRuntime) -> Result<(), Fail> {
+    let Ok(mut relay) = new_relay(rt.alloc(), 5) else {
+        return Err(Fail::from("no relay"));
+    };
+    let stopped = relay.follow(3) == Err(JournalFault::Relay);
+    let is_front = is_given(&relay, b"1\n0\n1");
+    drop(relay);
+    let refused = matches!(new_relay(rt.alloc(), 0), Err(JournalFault::Relay));
+    assert!(rt; stopped && is_front && refused);
     Ok(())
 }

@@ -1,6 +1,6 @@
 //! A journal that is renewed by a save, as the worker of a journal calls it.
 ghost use Rattle.std.specs.Prelude.{IfOk};
-ghost use Rattle.durable_lines.specs.Lines.{IsSettled};
+ghost use Rattle.durable_lines.specs.Lines.{IsReady};
 
 use crate::meters::asked_port;
 use durable_lines::{DurableFile, FileFault, MemoryPlace, recover};
@@ -23,9 +23,7 @@ static RENEWED: &[u8] = b"RELAYTRACE 2\ndevice 52454C415931\nstate 2\nmode 1\n";
 
 /// Returns the file of a journal that is renewed by each save, and then has the last event.
 fn make_renewed_file(alloc: Global) -> Result<RenewedFile<MemoryPlace>, FileFault>
-    ensures { let D = ⟦<RenewedFile<MemoryPlace> as DurableFile>⟧
-        in IfOk result (λ file.
-        D.acts_as_file → IsSettled D.seen D.may_leave D.identity D.stored file) }
+    ensures { IfOk result (IsReady ⟦<RenewedFile<MemoryPlace> as DurableFile>⟧.model) }
 {
     let place = MemoryPlace::new(alloc, BEGUN.to_vec(alloc)?);
     let terms = RenewalTerms {

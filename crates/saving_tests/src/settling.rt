@@ -42,15 +42,12 @@ fn settle_port<L: JournalIdentity + Send + Sync, W: Wait>(
     mut port: Port<Kept>,
     other: Port<Kept>,
 ) -> Option<Settled>
-    requires settled { let D = ⟦<MemoryFile as DurableFile>⟧
-        in IsSettled D.seen D.may_leave D.identity D.stored file }
-    requires of_file { let D = ⟦<MemoryFile as DurableFile>⟧
-        in IsFileOf D.seen D.identity L.file L.first file }
+    requires settled { IsSettled ⟦<MemoryFile as DurableFile>⟧.model file }
+    requires of_file { IsFileOf ⟦<MemoryFile as DurableFile>⟧.model L.file L.first file }
     requires same_lock { (port.lock ≡ L.lock) × (other.lock ≡ L.lock) }
     requires may_end { L.may_end }
-    requires may_fail { let D = ⟦<MemoryFile as DurableFile>⟧
-        in (fault : JournalFault) → IsSaveFault D.has_failed D.identity L.file L.lock fault
-        → L.may_fail fault }
+    requires may_fail { (fault : JournalFault)
+        → IsSaveFault ⟦<MemoryFile as DurableFile>⟧.model L.file L.lock fault → L.may_fail fault }
 {
     let (ran, _end) = run_journal::<L, W>(rt, alloc, file, other);
     let Some((progress, other)) = ran else {
@@ -78,8 +75,7 @@ fn settle_port<L: JournalIdentity + Send + Sync, W: Wait>(
 /// Settles a port of a meter that replied to three events, as [`settle_port`] does. Returns `None`
 /// if an event got no reply, or if out of memory.
 fn settle_asked<W: Wait>(rt: &W, alloc: Global, file: MemoryFile) -> Option<Settled>
-    requires { let D = ⟦<MemoryFile as DurableFile>⟧
-        in IsSettled D.seen D.may_leave D.identity D.stored file }
+    requires { IsSettled ⟦<MemoryFile as DurableFile>⟧.model file }
 {
     let Ok(Some(mut port)) = asked_port(rt, alloc) else {
         drop(file);

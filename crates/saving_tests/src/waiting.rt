@@ -7,8 +7,12 @@ ghost use Rattle.meter_journal.specs.declared.fault.JournalFault.{JournalFault};
 
 use crate::fronts::{FIRST, first_file};
 use crate::meters::asked_port;
+use crate::relays::Given;
 use durable_lines::{DurableFile, FileFault, MemoryFile, recover};
-use meter_journal::{FailureAction, JournalFault, JournalIdentity, JournalProgress, JournalWorker};
+use meter_journal::{
+    FailureAction, JournalEnd, JournalFault, JournalIdentity, JournalParts, JournalProgress,
+    JournalWorker, MeterJournal,
+};
 use port_threads::Worker;
 use shared_meter::{Durability, Kept};
 use std::alloc::Global;
@@ -37,15 +41,12 @@ pub(crate) fn run_journal<L: JournalIdentity + Send + Sync, W: Wait>(
     Option<(JournalProgress<MemoryFile, L>, Port<Kept>)>,
     Option<Result<u64, JournalFault>>,
 )
-    requires settled { let D = ⟦<MemoryFile as DurableFile>⟧
-        in IsSettled D.seen D.may_leave D.identity D.stored file }
-    requires of_file { let D = ⟦<MemoryFile as DurableFile>⟧
-        in IsFileOf D.seen D.identity L.file L.first file }
+    requires settled { IsSettled ⟦<MemoryFile as DurableFile>⟧.model file }
+    requires of_file { IsFileOf ⟦<MemoryFile as DurableFile>⟧.model L.file L.first file }
     requires same_lock { port.lock ≡ L.lock }
     requires may_end { L.may_end }
-    requires may_fail { let D = ⟦<MemoryFile as DurableFile>⟧
-        in (fault : JournalFault) → IsSaveFault D.has_failed D.identity L.file L.lock fault
-        → L.may_fail fault }
+    requires may_fail { (fault : JournalFault)
+        → IsSaveFault ⟦<MemoryFile as DurableFile>⟧.model L.file L.lock fault → L.may_fail fault }
     ensures { IfSome result.0 (λ r. r.1.lock ≡ L.lock) }
 {
     let Ok(progress) = JournalProgress::<MemoryFile, L>::new(alloc, &mut port, &file) else {
@@ -54,12 +55,18 @@ pub(crate) fn run_journal<L: JournalIdentity + Send + Sync, W: Wait>(
         return (None, None);
     };
     progress.stop();
-    let Ok(worker) = JournalWorker::new(alloc, file, &progress, Nothing, 64) else {
+    let parts: JournalParts<MemoryFile, Given> = JournalParts { file, relay: None };
+    let journal = MeterJournal {
+        parts,
+        on_failure: Nothing,
+    };
+    let Ok(worker) = JournalWorker::new(alloc, journal, &progress, 64) else {
         return (Some((progress, port)), None);
     };
-    let (back, (file, end)) = worker.work(rt, alloc, port);
-    drop(file);
-    (Some((progress, back)), Some(end))
+    let (back, end) = worker.work(rt, alloc, port);
+    let JournalEnd { parts, saved } = end;
+    drop(parts);
+    (Some((progress, back)), Some(saved))
 }
 
 /// What a port learned of a journal that has ended.
@@ -88,15 +95,12 @@ fn waits_after<L: JournalIdentity + Send + Sync, W: Wait>(
     file: MemoryFile,
     port: Port<Kept>,
 ) -> Option<Waits>
-    requires settled { let D = ⟦<MemoryFile as DurableFile>⟧
-        in IsSettled D.seen D.may_leave D.identity D.stored file }
-    requires of_file { let D = ⟦<MemoryFile as DurableFile>⟧
-        in IsFileOf D.seen D.identity L.file L.first file }
+    requires settled { IsSettled ⟦<MemoryFile as DurableFile>⟧.model file }
+    requires of_file { IsFileOf ⟦<MemoryFile as DurableFile>⟧.model L.file L.first file }
     requires same_lock { port.lock ≡ L.lock }
     requires may_end { L.may_end }
-    requires may_fail { let D = ⟦<MemoryFile as DurableFile>⟧
-        in (fault : JournalFault) → IsSaveFault D.has_failed D.identity L.file L.lock fault
-        → L.may_fail fault }
+    requires may_fail { (fault : JournalFault)
+        → IsSaveFault ⟦<MemoryFile as DurableFile>⟧.model L.file L.lock fault → L.may_fail fault }
 {
     let (ran, end) = run_journal::<L, W>(rt, alloc, file, port);
     let Some((progress, mut port)) = ran else {

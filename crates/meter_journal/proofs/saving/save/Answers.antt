@@ -6,12 +6,9 @@ use Rattle.meter_journal.proofs.saving.save.Goals as goal
 
 pub returns-in_err-text-clause-any_moment : goal.returns-in_err-text-clause-any_moment
 returns-in_err-text-clause-any_moment g c = λ acts first saved.
-    let D = g.F.DurableFile in
-    unchanged_leaves D.renews D.seen D.may_leave D.identity D.stored D.moment D.left_since
-    c.args.file.now
+    unchanged_leaves g.F.DurableFile.model c.args.file.now
     first c.args.taken c.args.port.now.known.seen c.take_lines.new.port.known.seen
-    c.take_lines.ensures.watches.sees.seen (c.requires.settled acts)
-    (g.met.F.DurableFile.only_now c.args.file.now) saved
+    c.take_lines.ensures.watches.sees.seen (c.requires.settled acts) saved
 
 -- the text that is appended is that of the lines that were taken
 rest_of : (lines : List (List ℕ)) (taken count : ℕ) (text slice : List ℕ) → slice ≡ text
@@ -28,34 +25,31 @@ append_and_renew-requires-clause-text g c =
 
 pub returns-in-Ok-clause-saved : goal.returns-in-Ok-clause-saved
 returns-in-Ok-clause-saved g c = λ acts first saved.
-    let D = g.F.DurableFile in
+    let model = g.F.DurableFile.model in
     let q = c.take_lines.new.port.known.seen in
     let rest = rest_of (lines_of_calls q) c.args.taken c.in_ok-text.count c.in_ok-text.text.items
     c.as_slice.result.now c.as_slice.ensures.value c.in_ok-text.ensures.lines in
-    saved_all D.renews first c.args.taken c.in_ok-text.count c.as_slice.result.now
-    c.args.port.now.known.seen q (D.seen c.args.file.now) (D.seen c.append_and_renew.new.file)
+    saved_all model.renews first c.args.taken c.in_ok-text.count c.as_slice.result.now
+    c.args.port.now.known.seen q (model.seen c.args.file.now)
+    (model.seen c.append_and_renew.new.file)
     c.take_lines.ensures.watches.sees.seen rest saved (c.in-Ok.ensures.lines acts first)
 
 pub returns-in-Ok-clause-any_moment : goal.returns-in-Ok-clause-any_moment
 returns-in-Ok-clause-any_moment g c = λ acts first saved.
-    let D = g.F.DurableFile in
     let q = c.take_lines.new.port.known.seen in
     let rest = rest_of (lines_of_calls q) c.args.taken c.in_ok-text.count c.in_ok-text.text.items
     c.as_slice.result.now c.as_slice.ensures.value c.in_ok-text.ensures.lines in
-    appended_leaves D.renews D.seen D.may_leave D.identity D.stored D.moment D.left_since
-    c.args.file.now
+    appended_leaves g.F.DurableFile.model c.args.file.now
     c.append_and_renew.new.file first c.args.taken c.in_ok-text.count c.as_slice.result.now
     c.args.port.now.known.seen q c.take_lines.ensures.watches.sees.seen rest saved
     (c.append_and_renew.ensures.any_moment acts first)
 
 pub returns-in-Err-clause-any_moment : goal.returns-in-Err-clause-any_moment
 returns-in-Err-clause-any_moment g c = λ acts first saved.
-    let D = g.F.DurableFile in
     let q = c.take_lines.new.port.known.seen in
     let rest = rest_of (lines_of_calls q) c.args.taken c.in_ok-text.count c.in_ok-text.text.items
     c.as_slice.result.now c.as_slice.ensures.value c.in_ok-text.ensures.lines in
-    appended_leaves D.renews D.seen D.may_leave D.identity D.stored D.moment D.left_since
-    c.args.file.now
+    appended_leaves g.F.DurableFile.model c.args.file.now
     c.append_and_renew.new.file first c.args.taken c.in_ok-text.count c.as_slice.result.now
     c.args.port.now.known.seen q c.take_lines.ensures.watches.sees.seen rest saved
     (c.append_and_renew.ensures.any_moment acts first)

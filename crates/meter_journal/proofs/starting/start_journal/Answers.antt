@@ -20,6 +20,7 @@ start_worker-running-requires-send-T-Reply g c κs within =
 pub start_worker-running-requires-send-K : goal.start_worker-running-requires-send-K
 start_worker-running-requires-send-K g c κs within =
     let f = c.type_bounds.send-F in
+    let w = c.type_bounds.send-W in
     let a = c.type_bounds.send-A in
     let l = c.type_bounds.send-L in
     search (sendable, crosses, note_send, kept_send) depth 40 fits 100000

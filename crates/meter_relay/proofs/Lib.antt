@@ -1,4 +1,0 @@
-pub mod FileLemmas
-pub mod FollowLemmas
-pub mod HistoryLemmas
-pub mod OutputLemmas

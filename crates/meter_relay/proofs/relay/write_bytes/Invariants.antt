@@ -1,7 +1,0 @@
--- The bytes before the rest were written.
-use Rattle.meter_relay.proofs.OutputLemmas.{GivenTo}
-use Rattle.meter_relay.proofs.relay.write_bytes.Given as goal
-
-abbrev pub invariant-writes : goal.invariant-writes
-invariant-writes g l =
-    GivenTo (g.W.Write.contents l.initial.output) (g.W.Write.contents l.output) l.bytes l.rest
