@@ -1,13 +1,16 @@
 -- A crash after a save leaves the lines that it has put on the disk, whatever saves came next.
 use Rattle.std.proofs.Common.{◌≡◌, ℕ, zero, suc, ◌≤◌, List, [], ◌++◌, length, Ok, sym, ap, subst}
 use Rattle.std.proofs.Common.{Result, Err, IfOk}
-use Rattle.std.proofs.Common.{◌∙◌, arith, le_refl, append-nil, append_assoc}
+use Rattle.std.proofs.Common.{◌∙◌, arith, le_refl, append-nil, append_assoc, take}
 use Rattle.crashed_runs.specs.Answers.{changing_calls}
 use Rattle.crashed_runs.specs.Fronts.{run_events}
-use Rattle.crashed_runs.specs.Saves.{AreSaves, ContinuesAnswered, IsSave, Stand, count_after}
+use Rattle.crashed_runs.specs.Saves.{AreSaves, ContinuesAnswered, IsSave, RenewsJournals, Stand}
+use Rattle.crashed_runs.specs.Saves.{count_after}
 use Rattle.crashed_runs.proofs.AnswerLemmas.{changing_append, no_changing, selection_kept}
 use Rattle.crashed_runs.proofs.FrontLemmas.{front_continues}
 use Rattle.durable_lines.specs.CrashModel.{LeavesOnly}
+use Rattle.durable_lines.specs.FileModel.{FileModel}
+use Rattle.durable_lines.specs.Holding.{HoldsAfter}
 use Rattle.durable_lines.specs.Lines.{lines_in, IsSettled, IsText}
 use Rattle.durable_lines.proofs.Moments.{begin, leaves_as, leaves_then}
 use Rattle.journal_files.specs.Journals.{Continues, changing}
@@ -38,75 +41,92 @@ starts_then long mid short one two = (
   one.1 ∙ ap (λ (cs : Calls). cs ++ one.0) two.1 ∙ append_assoc short two.0 one.0,
 )
 
-module _ {F : Type 0} (moment : F → ℕ) (left_since : F → ℕ → List ℕ → Type 0)
-    (Renews : List ℕ → List ℕ → Type 0) (first : List (List ℕ)) where
+module _ {F : Type 0} (model : FileModel F) (first : List (List ℕ)) where
   -- what is known after saves
   pub record Stays (old new : Stand F) : Type 0 where
     pub longer : StartsWith new.calls old.calls
     pub more : old.count ≤ new.count
-    pub leaves : LeavesOnly moment left_since old.file new.file
-        (IsSavedFrom Renews old.count first new.calls)
+    pub leaves : LeavesOnly model old.file new.file
+        (IsSavedFrom model.renews old.count first new.calls)
 
   -- before any further save
-  stays_still : (old : Stand F) (may_leave : List ℕ → Type 0) (bytes : List ℕ)
-      → ((c : List ℕ) → left_since old.file (moment old.file) c → may_leave c)
-      → ((c : List ℕ) → may_leave c → c ≡ bytes) → IsSaved Renews first old.count old.calls bytes
-      → Stays old old
-  stays_still old may_leave bytes only_now durable saved = record {
+  stays_still : (old : Stand F) → IsSettled model old.file
+      → IsSaved model.renews first old.count old.calls (model.seen old.file) → Stays old old
+  stays_still old settled saved = record {
     longer = starts_self old.calls;
     more = le_refl old.count;
-    leaves = begin moment left_since old.file (IsSavedFrom Renews old.count first old.calls)
-        may_leave only_now
+    leaves = begin model old.file (IsSavedFrom model.renews old.count first old.calls)
         (λ c now. (
           old.count,
           le_refl old.count,
-          subst (IsSaved Renews first old.count old.calls) (sym (durable c now)) saved,
+          subst (IsSaved model.renews first old.count old.calls)
+              (sym (settled.durable c now)) saved,
         ));
   }
 
   -- after one more
-  stays_on : (old mid new : Stand F) → Stays old mid
-      → IsSave moment left_since Renews first mid new → Stays old new
+  stays_on : (old mid new : Stand F) → Stays old mid → IsSave model first mid new → Stays old new
   stays_on old mid new stays save = record {
     longer = starts_then new.calls mid.calls old.calls save.longer stays.longer;
     more = omega (arith, stays.more, save.more);
-    leaves = leaves_then moment left_since old.file mid.file new.file
-        (IsSavedFrom Renews old.count first new.calls)
-        (leaves_as moment left_since old.file mid.file
-        (IsSavedFrom Renews old.count first mid.calls)
-        (IsSavedFrom Renews old.count first new.calls)
+    leaves = leaves_then model old.file mid.file new.file
+        (IsSavedFrom model.renews old.count first new.calls)
+        (leaves_as model old.file mid.file (IsSavedFrom model.renews old.count first mid.calls)
+        (IsSavedFrom model.renews old.count first new.calls)
         (λ c from. (
           from.0,
           from.1,
-          saved_later Renews first from.0 mid.calls new.calls c save.longer from.2,
+          saved_later model.renews first from.0 mid.calls new.calls c save.longer from.2,
         ))
         stays.leaves)
-        (leaves_as moment left_since mid.file new.file
-        (IsSavedFrom Renews mid.count first new.calls)
-        (IsSavedFrom Renews old.count first new.calls)
+        (leaves_as model mid.file new.file (IsSavedFrom model.renews mid.count first new.calls)
+        (IsSavedFrom model.renews old.count first new.calls)
         (λ c from. (from.0, omega (arith, from.1, stays.more), from.2)) save.any_moment);
   }
 
-  pub stays_after : (saves : ℕ) (old new : Stand F)
-      → AreSaves moment left_since Renews first saves old new → Stays old old → Stays old new
+  pub stays_after : (saves : ℕ) (old new : Stand F) → AreSaves model first saves old new
+      → Stays old old → Stays old new
   stays_after zero old new same stays = subst (λ (s : Stand F). Stays old s) (sym same) stays
   stays_after (suc saves) old new more stays =
       stays_on old more.0 new (stays_after saves old more.0 more.1 stays) more.2
 
   -- a crash after saves leaves the lines that the file held before them
-  pub crash_leaves : {seen : F → List ℕ} {may_leave : F → List ℕ → Type 0}
-      {identity : F → ℕ} {stored : ℕ → List ℕ → Type 0} (saves : ℕ) (old new : Stand F) (c : List ℕ)
-      → ((c : List ℕ) → left_since old.file (moment old.file) c → may_leave old.file c)
-      → IsSettled seen may_leave identity stored old.file
-      → IsSaved Renews first old.count old.calls (seen old.file)
-      → AreSaves moment left_since Renews first saves old new
-      → left_since new.file (moment old.file) c
-      → StartsWith new.calls old.calls × IsSavedFrom Renews old.count first new.calls c
-  crash_leaves {seen} {may_leave} {identity} {stored} saves old new c only_now settled saved are
-      crash =
-      let stays = stays_after saves old new are (stays_still old (may_leave old.file)
-      (seen old.file) only_now settled.durable saved) in
+  pub crash_leaves : (saves : ℕ) (old new : Stand F) (c : List ℕ) → IsSettled model old.file
+      → IsSaved model.renews first old.count old.calls (model.seen old.file)
+      → AreSaves model first saves old new → model.left_since new.file (model.moment old.file) c
+      → StartsWith new.calls old.calls × IsSavedFrom model.renews old.count first new.calls c
+  crash_leaves saves old new c settled saved are crash =
+      let stays = stays_after saves old new are (stays_still old settled saved) in
       (stays.longer, stays.leaves.each c crash)
+
+-- ---- files that are renewed as journals are
+
+holds_as : (R S : List ℕ → List ℕ → Type 0) → ((old new : List ℕ) → R old new → S old new)
+    → (first : List (List ℕ)) (renewals : ℕ) (lines : List (List ℕ)) (bytes : List ℕ)
+    → HoldsAfter R first renewals lines bytes → HoldsAfter S first renewals lines bytes
+holds_as R S weaker first zero lines bytes holds = holds
+holds_as R S weaker first (suc n) lines bytes rebased = record {
+  base = rebased.base;
+  rest = rebased.rest;
+  all = rebased.all;
+  old = rebased.old;
+  held = holds_as R S weaker first n rebased.base rebased.old rebased.held;
+  renewed = rebased.renewed;
+  renewal = weaker rebased.old rebased.renewed rebased.renewal;
+  appended = rebased.appended;
+}
+
+pub saved_as : {F : Type 0} (model : FileModel F) → RenewsJournals model
+    → (first : List (List ℕ)) (n : ℕ) (calls : Calls) (c : List ℕ)
+    → IsSaved model.renews first n calls c → IsSaved IsRenewedAs first n calls c
+saved_as model renews first n calls c saved = record {
+  within = saved.within;
+  lines = (
+    saved.lines.0,
+    holds_as model.renews IsRenewedAs renews first saved.lines.0
+        (take n (lines_of_calls calls)) c saved.lines.1,
+  );
+}
 
 -- a meter that is resumed from a file with the lines of a front has all its changing calls
 pub answered_continue : (count : ℕ) (device began left : List ℕ) (trace : Trace)
@@ -134,19 +154,16 @@ counts_more taken lines (Ok saved) counted within = omega (arith, counted, withi
 counts_more taken lines (Err fault) counted within = le_refl taken
 
 -- a call of `save` is a save
-pub save_counts : {F : Type 0} (seen : F → List ℕ) (moment : F → ℕ)
-    (left_since : F → ℕ → List ℕ → Type 0) (Renews : List ℕ → List ℕ → Type 0)
-    (first : List (List ℕ)) (old new : F) (p q : MeterPort) (taken : ℕ)
-    (result : Result Saved JournalFault) → Watches IsLegal p.known q.known
+pub save_counts : {F : Type 0} (model : FileModel F) (first : List (List ℕ)) (old new : F)
+    (p q : MeterPort) (taken : ℕ) (result : Result Saved JournalFault)
+    → Watches IsLegal p.known q.known
     → IfOk result (λ saved. saved.count ≡ length (lines_of_calls q.known.seen))
-    → IsSaved Renews first taken p.known.seen (seen old)
-    → LeavesOnly moment left_since old new (IsSavedFrom Renews taken first q.known.seen)
-    → IsSave moment left_since Renews first
-    (record { file = old; calls = p.known.seen; count = taken })
+    → IsSaved model.renews first taken p.known.seen (model.seen old)
+    → LeavesOnly model old new (IsSavedFrom model.renews taken first q.known.seen)
+    → IsSave model first (record { file = old; calls = p.known.seen; count = taken })
     (record { file = new; calls = q.known.seen; count = count_after taken result })
-save_counts seen moment left_since Renews first old new p q taken result watches counted saved
-    leaves =
-    let later = saved_later Renews first taken p.known.seen q.known.seen (seen old)
+save_counts model first old new p q taken result watches counted saved leaves =
+    let later = saved_later model.renews first taken p.known.seen q.known.seen (model.seen old)
     watches.sees.seen saved in
     record {
       longer = watches.sees.seen;

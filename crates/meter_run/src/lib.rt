@@ -9,6 +9,5 @@ mod journaled;
 mod running;
 
 pub use closing::close_meter;
-pub use journaled::MeterJournal;
 pub use meter_server::{OwnSources, Sources};
 pub use running::{MeterRun, RunTerms, run_meter};

@@ -2,25 +2,22 @@
 //! own events in parallel.
 ghost use Rattle.std.specs.Prelude.{◌≡◌, ◌⊎◌, ⊤, [], Err, None, Ok, IfOk, IfErr, IfSome, IsErrOf};
 ghost use Rattle.acse_ber.specs.Password.{IsPassword};
-ghost use Rattle.durable_lines.specs.Lines.{IsSettled};
+ghost use Rattle.durable_lines.specs.Lines.{IsReady};
 ghost use Rattle.meter_run.specs.Closing.{FindsTurn};
-ghost use Rattle.meter_run.specs.Journaled.{ActsOnFailure, AnyEnd, CanFail, IsRun, file_in};
-ghost use Rattle.meter_run.specs.Journaled.{first_port, session_steps};
-ghost use Rattle.meter_run.specs.Runs.{IsLeftOpen, Traces};
-ghost use Rattle.meter_server.specs.Ports.{PortSteps};
+ghost use Rattle.meter_run.specs.Journaled.{AnyEnd, Runs, parts_in};
+ghost use Rattle.meter_run.specs.Runs.{Traces};
 ghost use Rattle.meter_server.specs.ServingAll.{Accounts, counts_of};
-ghost use Rattle.meter_server.specs.Sessions.{ServesClient};
 ghost use Rattle.shared_meter.specs.Calls.{Stands};
 ghost use Rattle.session_io.specs.declared.fault.ServeFault.TheVariants as fault;
 ghost use Rattle.trace_player.specs.RunTraces.{TellsRun};
 ghost use Rattle.turn_lock.specs.Rule.{first_known};
-ghost use Rattle.program.specs.declared.fault.Fault.TheVariants.{Memory, Turns, Write};
+ghost use Rattle.program.specs.declared.fault.Fault.TheVariants.{Memory, Turns};
 
 use crate::closing::close_meter;
-use crate::journaled::{MeterJournal, run_journaled};
+use crate::journaled::run_journaled;
 use cosem_axdr::Octets;
 use durable_lines::DurableFile;
-use meter_journal::FailureAction;
+use meter_journal::{FailureAction, JournalParts, MeterJournal, SupplyOutput};
 use meter_server::{ClientTerms, Listener, OwnSources, ServeFault, Served, serve};
 use program::Fault;
 use relay_recorder::Recorder;
@@ -45,18 +42,18 @@ pub struct RunTerms<'a> {
 
 /// How a run ended.
 #[derive(Drop)]
-pub struct MeterRun<F: Drop> {
+pub struct MeterRun<F: DurableFile, W: SupplyOutput> {
     /// The number of connections that were served and turned away, or why the server stopped.
     pub served: Result<Served, ServeFault>,
     /// The text of the trace. Errors: `Turns` if a call was still in its turn; `Memory`.
     pub trace: Result<Octets, Fault>,
-    /// Whether each line of the run is on the disk; `Ok` also if the meter has no journal. Errors:
-    /// `Write` if the journal failed; `Memory` if it was not started, or it is not known that it
-    /// has all lines.
+    /// Whether each line of the run is on the disk, and the relay was given each change; `Ok` also
+    /// if the meter has no journal. Errors: `Write` if the journal or its relay failed; `Memory` if
+    /// it was not started, or it is not known that it has all lines.
     pub journal: Result<(), Fault>,
-    /// The journal's file, also if the journal has failed; `None` if there is none, or it was not
-    /// started.
-    pub file: Option<F>,
+    /// The journal's file and its relay, also if the journal has failed; `None` if there is none,
+    /// or it was not started.
+    pub parts: Option<JournalParts<F, W>>,
 }
 
 // Returns a lock for 2^62 calls over a recorder without calls, and its first port.
@@ -111,43 +108,44 @@ pub(crate) fn close_and_export(
 }
 
 // What a run returns for which no lock, journal, port or thread is available.
-pub(crate) fn no_run<F: Drop>(journal: Result<(), Fault>) -> MeterRun<F>
+pub(crate) fn no_run<F: DurableFile, W: SupplyOutput>(journal: Result<(), Fault>) -> MeterRun<F, W>
     ensures served { result.served ≡ Err fault.Memory }
     ensures trace { result.trace ≡ Err Memory }
     ensures journal { result.journal ≡ journal }
-    ensures file { result.file ≡ None }
+    ensures parts { result.parts ≡ None }
 {
     MeterRun {
         served: Err(ServeFault::Memory),
         trace: Err(Fault::Memory),
         journal,
-        file: None,
+        parts: None,
     }
 }
 
 // Runs a meter without a journal.
-fn run_plain<L: Listener, S: OwnSources, F: DurableFile, R: Threads + Wait + Copy + Send + 'static>(
+fn run_plain<
+    L: Listener,
+    S: OwnSources,
+    F: DurableFile,
+    O: SupplyOutput,
+    A: FailureAction,
+    R: Threads + Wait + Copy + Send + 'static,
+>(
     rt: &R,
     alloc: Global,
     recorder: Recorder,
     listener: &mut L,
     sources: S,
     terms: &RunTerms<'_>,
-) -> MeterRun<F>
+) -> MeterRun<F, O>
     requires unused { recorder.events ≡ [] }
     requires password { IsPassword terms.now.password.now }
-    ensures run { IfOk result.trace (IsRun F.acts_as_file F.identity F.seen F.may_leave F.moment
-        F.left_since F.stored F.renews L.Input.remaining L.Output.contents AnyEnd
-        None recorder terms.now.password.now (S.forecasts sources) result.served result.journal
-        result.file) }
+    ensures runs { Runs F.model O.contents L.Input.remaining L.Output.contents AnyEnd None recorder
+        terms.now.password.now (S.forecasts sources) A.has_acted result }
     ensures accounts { Accounts terms.now.limit
         (counts_of L.accepted L.setup_failures listener.old)
         (counts_of L.accepted L.setup_failures listener.new) ⊤ (L.has_failed listener.new)
         result.served }
-    ensures err { IfErr result.trace (λ fault. (fault ≡ Turns) ⊎ (fault ≡ Memory)) }
-    ensures still_out { IsErrOf result.trace Turns → IsLeftOpen 0
-        (ServesClient L.Input.remaining L.Output.contents PortSteps terms.now.password.now)
-        recorder (S.forecasts sources) result.served }
     ensures journal { result.journal ≡ Ok tt }
 {
     match lock(alloc, Kept::new(recorder)) {
@@ -162,7 +160,7 @@ fn run_plain<L: Listener, S: OwnSources, F: DurableFile, R: Threads + Wait + Cop
                 served,
                 trace: close_and_export(alloc, shared, port),
                 journal: Ok(()),
-                file: None,
+                parts: None,
             }
         }
         Err(_) => {
@@ -178,9 +176,11 @@ fn run_plain<L: Listener, S: OwnSources, F: DurableFile, R: Threads + Wait + Cop
 ///
 /// With a journal its worker is started before. Each answer is written only after the lines of all
 /// calls that its session has seen are on the disk, and the lines that are left are written at the
-/// end. If the journal fails, its `on_failure` is called, with the fault `Failed` only if the file
-/// has failed, and no event is answered any more whose line is not on the disk. The file is
-/// returned; a crash at any moment of the run left a front of the lines of its calls.
+/// end. The relay, which must have been given no change before, is given the changes of the supply
+/// output by the calls, in order, each once, and only once their lines are on the disk. If the
+/// journal or the relay fails, its `on_failure` is called, with the fault `Failed` only if the file
+/// has failed, and no event is answered any more whose line is not on the disk. The file and the
+/// relay are returned; a crash at any moment of the run left a front of the lines of its calls.
 ///
 /// The results are independent: the trace is written whatever ended the serving and the journal. If
 /// no memory, port or thread is available for the lock and the journal, all are `Memory`, but for
@@ -195,6 +195,7 @@ pub fn run_meter<
     L: Listener,
     S: OwnSources,
     F: DurableFile + Send + 'static,
+    O: SupplyOutput + Send + 'static,
     A: FailureAction + 'static,
     R: Threads + Wait + Copy + Send + 'static,
 >(
@@ -203,32 +204,24 @@ pub fn run_meter<
     recorder: Recorder,
     listener: &mut L,
     sources: S,
-    journal: Option<MeterJournal<F, A>>,
+    journal: Option<MeterJournal<F, O, A>>,
     terms: &RunTerms<'_>,
-) -> MeterRun<F>
+) -> MeterRun<F, O>
     requires unused { recorder.events ≡ [] }
-    requires settled { IfSome (file_in journal) (λ file. F.acts_as_file
-        → IsSettled F.seen F.may_leave F.identity F.stored file) }
+    requires settled { IfSome (parts_in journal) (λ parts. IsReady F.model parts.file) }
+    requires unrelayed { IfSome (parts_in journal)
+        (λ parts. IfSome parts.relay (λ relay. relay.given ≡ 0)) }
     requires password { IsPassword terms.now.password.now }
-    ensures run { IfOk result.trace (IsRun F.acts_as_file F.identity F.seen F.may_leave F.moment
-        F.left_since F.stored F.renews L.Input.remaining L.Output.contents AnyEnd
-        (file_in journal) recorder terms.now.password.now (S.forecasts sources) result.served
-        result.journal result.file) }
+    ensures runs { Runs F.model O.contents L.Input.remaining L.Output.contents AnyEnd
+        (parts_in journal) recorder terms.now.password.now (S.forecasts sources) A.has_acted
+        result }
     ensures accounts { Accounts terms.now.limit
         (counts_of L.accepted L.setup_failures listener.old)
         (counts_of L.accepted L.setup_failures listener.new) ⊤ (L.has_failed listener.new)
         result.served }
-    ensures err { IfErr result.trace (λ fault. (fault ≡ Turns) ⊎ (fault ≡ Memory)) }
-    ensures still_out { IsErrOf result.trace Turns → IsLeftOpen (first_port (file_in journal))
-        (ServesClient L.Input.remaining L.Output.contents
-        (session_steps F.acts_as_file F.identity F.seen F.may_leave F.moment F.left_since F.stored
-        F.renews AnyEnd (file_in journal)) terms.now.password.now)
-        recorder (S.forecasts sources) result.served }
-    ensures journal { IfErr result.journal (λ fault. (fault ≡ Write) ⊎ (fault ≡ Memory)) }
-    ensures acted { ActsOnFailure A.has_acted (CanFail F.has_failed result.file) result.journal }
 {
     match journal {
         Some(journal) => run_journaled(rt, alloc, recorder, listener, sources, journal, terms),
-        None => run_plain(rt, alloc, recorder, listener, sources, terms),
+        None => run_plain::<L, S, F, O, A, R>(rt, alloc, recorder, listener, sources, terms),
     }
 }

@@ -1,5 +1,7 @@
 -- A run whose sources are lists is a run, with the declared items of the lists.
 use Rattle.std.proofs.Common.{ℕ, ◌+◌, List, Option, None, Some, subst, arith, IfOk, Result, Ok, Err}
+use Rattle.durable_lines.specs.FileModel.{FileModel}
+use Rattle.meter_journal.specs.declared.journal.JournalParts.{JournalParts}
 use Rattle.shared_meter.specs.Calls.{IsLegal}
 use Rattle.meter_run.specs.Journaled.{AnyEnd, IsRun}
 use Rattle.meter_server.proofs.PortLemmas.{port_steps}
@@ -21,18 +23,16 @@ sources_of lists = record {
   presses = Some lists.presses;
 }
 
-module _ {F I O : Type 0} (acts : Type 0) (identity : F → ℕ) (seen : F → List ℕ)
-    (may_leave : F → List ℕ → Type 0) (moment : F → ℕ) (left_since : F → ℕ → List ℕ → Type 0)
-    (stored : ℕ → List ℕ → Type 0) (Renews : List ℕ → List ℕ → Type 0)
+module _ {F W I O : Type 0} (model : FileModel F) (given : W → Option (List ℕ))
     (remaining : I → Option (List ℕ)) (contents : O → Option (List ℕ)) where
   abbrev IsRunOf : Recording → Lists → Result Served ServeFault → Result (Unit {0}) Fault
-      → Option F → List ℕ → Type 0
+      → Option (JournalParts F W) → List ℕ → Type 0
   IsRunOf recorder lists served journal ended =
-      IsRun acts identity seen may_leave moment left_since stored Renews remaining contents AnyEnd
-      None recorder lists.password (sources_of lists) served journal ended
+      IsRun model given remaining contents AnyEnd None recorder lists.password (sources_of lists)
+      served journal ended
 
   listed : (recorder : Recording) (lists : Lists) (served : Served)
-      (journal : Result (Unit {0}) Fault) (ended : Option F) (text : List ℕ)
+      (journal : Result (Unit {0}) Fault) (ended : Option (JournalParts F W)) (text : List ℕ)
       → IsRunOf recorder lists (Ok served) journal ended text
       → IsListedRun recorder lists served.served text
   listed recorder lists served journal ended text whole =
@@ -55,7 +55,8 @@ module _ {F I O : Type 0} (acts : Type 0) (identity : F → ℕ) (seen : F → L
       }
 
   if_traced : {E : Type 0} (recorder : Recording) (lists : Lists) (served : Served)
-      (journal : Result (Unit {0}) Fault) (ended : Option F) (trace : Result (List ℕ) E)
+      (journal : Result (Unit {0}) Fault) (ended : Option (JournalParts F W))
+      (trace : Result (List ℕ) E)
       → IfOk trace (IsRunOf recorder lists (Ok served) journal ended)
       → IfOk trace (IsListedRun recorder lists served.served)
   if_traced recorder lists served journal ended (Ok text) run =
@@ -64,7 +65,8 @@ module _ {F I O : Type 0} (acts : Type 0) (identity : F → ℕ) (seen : F → L
 
   -- a run that was not stopped early
   pub listed_if : {E : Type 0} (recorder : Recording) (lists : Lists)
-      (served : Result Served ServeFault) (journal : Result (Unit {0}) Fault) (ended : Option F)
+      (served : Result Served ServeFault) (journal : Result (Unit {0}) Fault)
+      (ended : Option (JournalParts F W))
       (trace : Result (List ℕ) E) → IfOk trace (IsRunOf recorder lists served journal ended)
       → IfOk served (λ (all : Served). IfOk trace (IsListedRun recorder lists all.served))
   listed_if recorder lists (Ok all) journal ended trace run =

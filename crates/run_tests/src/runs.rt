@@ -11,12 +11,14 @@ use crate::traces::{Lines, is_merged};
 use cosem_axdr::Octets;
 use durable_lines::MemoryFile;
 use lane_sampler::{Block, BlockMade};
-use meter_journal::{FailureAction, JournalFault};
-use meter_run::{MeterJournal, MeterRun, RunTerms, Sources, run_meter};
+use meter_journal::{FailureAction, JournalFault, MeterJournal, SupplyOutput};
+use meter_run::{MeterRun, RunTerms, Sources, run_meter};
 use meter_server::{ServeFault, Served};
 use relay_recorder::Recorder;
 use std::alloc::{AllocError, Global};
 use std::collections::VecDeque;
+use std::io;
+use std::io::Write;
 use std::process::Abort;
 use std::sync::{Arc, Wait};
 use std::test::Fail;
@@ -28,6 +30,26 @@ struct NoAction;
 
 impl FailureAction for NoAction {
     fn act(self, _fault: JournalFault) {}
+}
+
+/// The output of these meters, which have no relay: nothing can be written to it.
+#[derive(Drop)]
+struct NoOutput;
+
+impl Write for NoOutput {
+    fn write(&mut self, _bytes: &[u8]) -> io::Result<usize> {
+        Ok(0)
+    }
+
+    fn flush(&mut self) -> io::Result<()> {
+        Ok(())
+    }
+}
+
+impl SupplyOutput for NoOutput {
+    fn report_change(&self, _is_on: bool) {}
+
+    fn report_failure(&self) {}
 }
 
 /// Sources that are lists.
@@ -45,7 +67,7 @@ fn run_lists<R: Threads + Wait + Copy + Send + 'static>(
     lists: Lists,
     password: &Octets,
     limit: u32,
-) -> MeterRun<MemoryFile>
+) -> MeterRun<MemoryFile, NoOutput>
     requires unused { recorder.events ≡ [] }
     requires password { IsPassword password.now }
     requires limited { 0 < limit }
@@ -61,7 +83,7 @@ fn run_lists<R: Threads + Wait + Copy + Send + 'static>(
         listener.new.accepted ≡ listener.old.accepted + (served.served + served.turned_away)) }
     ensures failed { IsErrOf result.served Listen → IsTrue listener.new.has_failed }
 {
-    let journal: Option<MeterJournal<MemoryFile, NoAction>> = None;
+    let journal: Option<MeterJournal<MemoryFile, NoOutput, NoAction>> = None;
     let terms = RunTerms {
         password,
         limit: u64::from(limit),
@@ -73,14 +95,14 @@ fn run_lists<R: Threads + Wait + Copy + Send + 'static>(
 type RunResult = (Result<Served, ServeFault>, bool);
 
 // Returns how a run ended, and whether its trace has the lines of these lists.
-fn result_of(run: MeterRun<MemoryFile>, expected: &[Lines; 6]) -> RunResult {
+fn result_of(run: MeterRun<MemoryFile, NoOutput>, expected: &[Lines; 6]) -> RunResult {
     let MeterRun {
         served,
         trace,
         journal: _,
-        file,
+        parts,
     } = run;
-    drop(file);
+    drop(parts);
     match trace {
         Ok(text) => {
             let is_traced = is_merged(text.as_slice(), expected);

@@ -3,6 +3,4 @@ use Rattle.crashed_runs.proofs.laws.each_call_of_save_is_a_save.Goals as goal
 
 pub returns : goal.returns
 returns g c = λ first old new p q taken result watches counted saved leaves.
-    let D = g.F.DurableFile in
-    save_counts D.seen D.moment D.left_since D.renews first old new p q taken result watches counted
-    saved leaves
+    save_counts g.F.DurableFile.model first old new p q taken result watches counted saved leaves

@@ -6,11 +6,11 @@ use Rattle.meter_run.proofs.journaled.run_journaled.Given as goal
 
 abbrev pub ghosts-run_in_lock : goal.ghosts-run_in_lock
 ghosts-run_in_lock g a =
-    let D = g.F.DurableFile in
+    let model = g.F.DurableFile.model in
     record {
       lock = a.meter.1.lock;
-      file = D.identity a.journal.file;
-      first = lines_in (D.seen a.journal.file);
+      file = model.identity a.journal.parts.file;
+      first = lines_in (model.seen a.journal.parts.file);
       may_end = ⊤;
       may_fail = λ fault. ⊤;
     }
