@@ -19,9 +19,9 @@ import serving
 from serving import (DISCONNECT, MODE, PASSWORD, RECONNECT, SERVER, SHORT, STATE, Server, check,
                      run_with, wait_until)
 
-OFF = "supply off: execute 1 70 000060030AFF 1 0F00"
+OFF = " supply off\n"
 NOT_OPENED = "the relay can't be opened for reading and writing"
-ON = "supply on: execute 1 70 000060030AFF 2 0F00"
+ON = " supply on\n"
 
 
 class RelayedServer(Server):
@@ -114,7 +114,7 @@ def the_meter_itself_moves_the_relay(name):
         check(f"{name}: the button", text_when(relay, "1\n0\n1\n0\n1\n") == "1\n0\n1\n0\n1\n", relay.read_text())
         client.close()
         status, _, errors = server.end()
-        check(f"{name}: the end", status == 0 and "supply on: button" in errors, status, errors)
+        check(f"{name}: the end", status == 0 and errors.endswith(ON), status, errors)
 
 
 def a_pipe_keeps_what_is_written(name):

@@ -1,7 +1,11 @@
 -- A trace that was printed.
 use Rattle.std.proofs.Common.{ℕ, List, Option, Some, None, Result, Ok, Err, IfOk}
 use Rattle.std.specs.Prelude.{⊤, OnOk}
-use Rattle.meter_run.specs.Journaled.{AnyEnd, IsOnDisk, IsRun, first_port, session_steps}
+use Rattle.durable_lines.specs.FileModel.{FileModel}
+use Rattle.meter_journal.specs.declared.fault.JournalFault.{JournalFault}
+use Rattle.meter_journal.specs.declared.journal.JournalParts.{JournalParts}
+use Rattle.meter_run.specs.Journaled.{AnyEnd, IsOnDisk, IsRun, Runs, first_port, session_steps}
+use Rattle.meter_run.specs.declared.running.MeterRun.{MeterRun}
 use Rattle.meter_run.specs.Runs.{IsRunFrom}
 use Rattle.meter_run.proofs.RunLemmas.{run_as}
 use Rattle.meter_server.proofs.JournalLemmas.{journal_steps}
@@ -27,28 +31,23 @@ prints IsText (Ok text) (Err fault) before after kind printed = tt
 prints IsText (Err fault) (Ok done) before after kind same = absurd cc
 prints IsText (Err fault) (Err other) before after kind same = tt
 
-module _ {F I O : Type 0} (acts : Type 0) (identity : F → ℕ) (seen : F → List ℕ)
-    (may_leave : F → List ℕ → Type 0) (moment : F → ℕ) (left_since : F → ℕ → List ℕ → Type 0)
-    (stored : ℕ → List ℕ → Type 0) (Renews : List ℕ → List ℕ → Type 0)
-    (remaining : I → Option (List ℕ)) (contents : O → Option (List ℕ)) where
+module _ {F W I O : Type 0} (model : FileModel F) (contents : W → Option (List ℕ))
+    (remaining : I → Option (List ℕ)) (written : O → Option (List ℕ)) where
   -- the calls of a session's port are the session's
-  asked : (began : Option F) (password : List ℕ) (p q : MeterPort)
-      → ServesClient remaining contents
-      (session_steps acts identity seen may_leave moment left_since stored Renews AnyEnd began)
-      password p q → AsksThrough password p q
+  asked : (began : Option (JournalParts F W)) (password : List ℕ) (p q : MeterPort)
+      → ServesClient remaining written (session_steps model AnyEnd began) password p q
+      → AsksThrough password p q
   asked None password p q session =
-      client_asks remaining contents _ port_steps password p q session
-  asked (Some file) password p q session =
-      client_asks remaining contents _
-      (journal_steps
-      (IsOnDisk acts identity seen may_leave moment left_since stored Renews file) AnyEnd
-      (λ port. ⊤)) password p q session
+      client_asks remaining written _ port_steps password p q session
+  asked (Some parts) password p q session =
+      client_asks remaining written _
+      (journal_steps (IsOnDisk model parts.file) AnyEnd (λ port. ⊤)) password p q session
 
-  asked_if : (began ended : Option F) (recorder : Recording) (password : List ℕ)
+  asked_if : (began ended : Option (JournalParts F W)) (recorder : Recording) (password : List ℕ)
       (served : Result Served ServeFault) (journal : Result (Unit {0}) Fault)
       (trace : Result (List ℕ) Fault)
-      → IfOk trace (IsRun acts identity seen may_leave moment left_since stored Renews remaining
-      contents AnyEnd began recorder password no_forecasts served journal ended)
+      → IfOk trace (IsRun model contents remaining written AnyEnd began recorder password
+      no_forecasts served journal ended)
       → IfOk trace
       (IsRunFrom (first_port began) (AsksThrough password) recorder no_forecasts served)
   asked_if began ended recorder password served journal (Ok text) run =
@@ -57,17 +56,15 @@ module _ {F I O : Type 0} (acts : Type 0) (identity : F → ℕ) (seen : F → L
   asked_if began ended recorder password served journal (Err fault) run = tt
 
   -- the trace of a run was printed
-  pub run_printed : (began ended : Option F) (recorder : Recording) (password : List ℕ)
-      (served : Result Served ServeFault) (journal : Result (Unit {0}) Fault)
-      (trace : Result (List ℕ) Fault) (result : Result (Unit {0}) Fault)
-      (before after : Option (List ℕ))
-      → IfOk trace (IsRun acts identity seen may_leave moment left_since stored Renews remaining
-      contents AnyEnd began recorder password no_forecasts served journal ended)
-      → Prints trace before result after
-      → OnOk result (PrintsRun (first_port began) recorder password served before after)
-  run_printed began ended recorder password served journal trace result before after run =
-      prints _ trace result before after
-      (asked_if began ended recorder password served journal trace run)
+  pub run_printed : (began : Option (JournalParts F W)) (recorder : Recording)
+      (password : List ℕ) (HasActed : JournalFault → Type 0) (end : MeterRun F W)
+      (result : Result (Unit {0}) Fault) (before after : Option (List ℕ))
+      → Runs model contents remaining written AnyEnd began recorder password no_forecasts HasActed
+      end → Prints end.trace before result after
+      → OnOk result (PrintsRun (first_port began) recorder password end.served before after)
+  run_printed began recorder password HasActed end result before after runs =
+      prints _ end.trace result before after
+      (asked_if began end.parts recorder password end.served end.journal end.trace runs.run)
 
 -- the trace of a run without a fault was printed, if that of this run was, and it had no fault
 pub trace_printed : (first limit : ℕ) (recorder : Recording) (password : List ℕ)

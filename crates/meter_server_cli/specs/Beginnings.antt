@@ -1,10 +1,11 @@
 -- What a server begins with.
---     HasPath    the journal of a meter has a path
-use Rattle.std.specs.Prelude.{◌≡◌, ⊤, ℕ, List, string_bytes}
-use Rattle.server_files.specs.declared.outputs.EventOutput.{EventOutput}
-use Rattle.server_files.specs.declared.outputs.EventOutput.TheVariants as output
+--     IsOpenAt    the journal or the relay that the options name is open
+use Rattle.std.specs.Prelude.{◌≡◌, ⊤, ℕ, List, Option, Some, None}
 
--- whether the journal that the events of a meter go to has this path, if it has a journal
-abbrev pub HasPath : {R F : Type 0} → (path : List ℕ) → EventOutput R F → Type 0
-HasPath path (output.Journal file) = string_bytes file.path ≡ path
-HasPath path _ = ⊤
+-- whether a file is open at the path that the options name, and none if they name none; `text_of`
+-- and `path_of` give the text of the one and the path of the other
+abbrev pub IsOpenAt : {P O : Type 0} → (path : Option P) → (opened : Option O)
+    → (text_of : P → List ℕ) → (path_of : O → List ℕ) → Type 0
+IsOpenAt None None text_of path_of = ⊤
+IsOpenAt (Some path) (Some opened) text_of path_of = path_of opened ≡ text_of path
+IsOpenAt _ _ text_of path_of = ⊥

@@ -21,8 +21,6 @@ use Rattle.program.specs.declared.fault.Fault.TheVariants as fault
 use Rattle.relay_recorder.specs.Recording.{Recording}
 use Rattle.session_io.specs.declared.fault.ServeFault.{ServeFault}
 use Rattle.session_io.specs.declared.fault.ServeFault.TheVariants as serve
-use Rattle.server_files.specs.declared.outputs.EventOutput.{EventOutput}
-use Rattle.server_files.specs.declared.outputs.EventOutput.TheVariants as output
 
 -- the fault of a console that lost this number of lines and may have failed to read; lost lines
 -- take precedence
@@ -58,11 +56,10 @@ abbrev pub PrintsRun : (first : ℕ) → (recorder : Recording) → (password : 
 PrintsRun first recorder password served =
     PrintsText (IsRunFrom first (AsksThrough password) recorder no_forecasts served)
 
--- the number of the sampler's port, by the outputs of the meter's events
-abbrev pub sampler_port : {R F : Type 0} → EventOutput R F → ℕ
-sampler_port output.None = 0
-sampler_port (output.Journal file) = 1
-sampler_port (output.Relay file) = 1
+-- the number of the sampler's port, by the journal and the relay of the meter
+abbrev pub sampler_port : {J R : Type 0} → Option J → Option R → ℕ
+sampler_port None None = 0
+sampler_port _ _ = 1
 
 -- whether serving ended without a fault: all its connections were served or turned away, or its
 -- listener ended

@@ -4,7 +4,7 @@ ghost use Rattle.acse_ber.specs.Password.{IsPassword};
 ghost use Rattle.meter_server_cli.specs.Endings.{PrintsTrace, sampler_port};
 
 use crate::ending::{Ends, run_fault};
-use crate::journal::{ServerEnd, run_alone, run_with_events};
+use crate::journal::{ServerEnd, ServerOutputs, run_with_outputs};
 use crate::listening::Listening;
 use crate::starting::Server;
 use cosem_axdr::Octets;
@@ -17,7 +17,6 @@ use meter_run::Sources;
 use program::Fault;
 use relay_recorder::Recorder;
 use server_commands::{Bounds, ServePlan};
-use server_files::EventOutput;
 use server_io::{Closing, Sockets, Stopped, StreamLimits};
 use session_log::Log;
 use std::alloc::{AllocError, Global};
@@ -245,8 +244,8 @@ fn start_server<R: Threads + Wait + Copy + Drop + Send + 'static>(
 }
 
 // Runs the meter with the outputs of its events, and prints its trace. Returns the results of
-// serving, of the journal or the relay, and of printing. It is generic over what stores files: over
-// a certain one its proof takes minutes.
+// serving, of the journal and the relay, and of printing. It is generic over what stores files:
+// over a certain one its proof takes minutes.
 fn serve_and_print<
     S: Clock + Files<File = File> + Copy + Drop + Send + 'static,
     R: Threads + Wait + Copy + Drop + Send + 'static,
@@ -257,29 +256,25 @@ fn serve_and_print<
     output: &mut W,
     server: (Listening<R>, ServerEnd<R>),
     meter: ServedMeter<R>,
-    events: EventOutput<S>,
+    outputs: ServerOutputs<S>,
 ) -> (Result<(), Fault>, Result<(), Fault>, Result<(), Fault>)
 where
     S::Dir: Send + 'static,
     requires { length meter.recorder.events ≡ 0 }
     ensures printed { OnOk result.2 (OnOk result.0
-        (PrintsTrace (sampler_port events) meter.clients.connections meter.recorder
-        meter.clients.password (W.contents output.old) (W.contents output.new))) }
+        (PrintsTrace (sampler_port outputs.journal outputs.relay) meter.clients.connections
+        meter.recorder meter.clients.password (W.contents output.old) (W.contents output.new))) }
 {
-    let (mut accepting, end) = server;
-    let listening = &mut accepting;
-    let (served, kept, printed) = match events {
-        EventOutput::Journal(file) => {
-            run_with_events(rt, threads, output, listening, meter, file, end)
-        }
-        EventOutput::Relay(file) => {
-            run_with_events(rt, threads, output, listening, meter, file, end)
-        }
-        EventOutput::None => {
-            drop(end);
-            run_alone(rt, threads, output, listening, meter)
-        }
-    };
+    let (mut listening, end) = server;
+    let (served, kept, printed) = run_with_outputs(
+        rt,
+        threads,
+        output,
+        &mut listening,
+        meter,
+        outputs,
+        end,
+    );
     (
         run_fault(served, listening.sockets.has_failed()),
         kept,
@@ -295,12 +290,13 @@ fn serve_running<R: Threads + Wait + Copy + Drop + Send + 'static, W: Write>(
     output: &mut W,
     running: Running<R>,
     recorder: Recorder,
-    events: EventOutput<HostRuntime>,
+    outputs: ServerOutputs<HostRuntime>,
     clients: ClientParameters,
 ) -> Result<(), Fault>
     requires { length recorder.events ≡ 0 }
-    ensures { OnOk result (PrintsTrace (sampler_port events) clients.connections recorder
-        clients.password (W.contents output.old) (W.contents output.new)) }
+    ensures { OnOk result (PrintsTrace (sampler_port outputs.journal outputs.relay)
+        clients.connections recorder clients.password (W.contents output.old)
+        (W.contents output.new)) }
 {
     let Running {
         log,
@@ -317,7 +313,7 @@ fn serve_running<R: Threads + Wait + Copy + Drop + Send + 'static, W: Write>(
         clients,
     };
     let server = (listening, end);
-    let (served, kept, printed) = serve_and_print(rt, threads, output, server, meter, events);
+    let (served, kept, printed) = serve_and_print(rt, threads, output, server, meter, outputs);
     if matches!(printed, Err(Fault::Write)) {
         let _ = eprintln!(log; "standard output: a write failed");
     }
@@ -345,12 +341,13 @@ pub(crate) fn run<R: Threads + Wait + Copy + Drop + Send + 'static, W: Write>(
     output: &mut W,
     server: Server,
 ) -> Result<(), Fault>
-    ensures { OnOk result (PrintsTrace (sampler_port server.events) server.plan.bounds.connections
-        server.plan.recorder server.plan.password (W.contents output.old) (W.contents output.new)) }
+    ensures { OnOk result (PrintsTrace (sampler_port server.outputs.journal server.outputs.relay)
+        server.plan.bounds.connections server.plan.recorder server.plan.password
+        (W.contents output.old) (W.contents output.new)) }
 {
     let Server {
         plan,
-        events,
+        outputs,
         listener,
         address,
     } = server;
@@ -370,11 +367,11 @@ pub(crate) fn run<R: Threads + Wait + Copy + Drop + Send + 'static, W: Write>(
                 password,
                 connections: bounds.connections,
             };
-            serve_running(rt, threads, output, running, recorder, events, clients)
+            serve_running(rt, threads, output, running, recorder, outputs, clients)
         }
         Err(fault) => {
             drop(recorder);
-            drop(events);
+            drop(outputs);
             Err(fault)
         }
     }

@@ -1,17 +1,18 @@
 //! How the command `serve` begins: from its options to a server that listens, with its journal and
 //! its relay.
 ghost use Rattle.std.specs.Prelude.{◌≡◌, IfOk, IfSome, is_some, string_bytes};
-ghost use Rattle.meter_server_cli.specs.Beginnings.{HasPath};
-ghost use Rattle.server_files.specs.Outputs.{IsOutputOf};
+ghost use Rattle.meter_server_cli.specs.Beginnings.{IsOpenAt};
+ghost use Rattle.relay_core.specs.Stands.{StandsFor};
+ghost use Rattle.relay_core.specs.World.{World};
+ghost use Rattle.shared_meter.specs.Switching.{is_on};
 
+use crate::journal::ServerOutputs;
 use crate::messages::why_not_listening;
 use durable_lines::{GROUP_READABLE, OWNER_ONLY};
 use program::Fault;
 use relay_recorder::Recorder;
 use server_commands::{Bounds, ServeOptions, ServePlan, has_name, make_plan};
-use server_files::{
-    EventOutput, JournalOptions, OpenJournal, RelayOptions, open_journal, open_outputs,
-};
+use server_files::{JournalOptions, OpenJournal, RelayOptions, open_journal, open_relay};
 use session_log::{Log, LogTime};
 use std::fs;
 use std::io::{IsTerminal, Stdin};
@@ -22,7 +23,7 @@ use std::net::{SocketAddr, TcpListener};
 #[derive(Drop)]
 pub(crate) struct Server {
     pub(crate) plan: ServePlan<Stdin>,
-    pub(crate) events: EventOutput<HostRuntime>,
+    pub(crate) outputs: ServerOutputs<HostRuntime>,
     pub(crate) listener: TcpListener,
     pub(crate) address: SocketAddr,
 }
@@ -121,9 +122,8 @@ fn with_journal(
 ) -> Result<(ServePlan<Stdin>, Option<OpenJournal<HostRuntime>>), Fault>
     ensures bounds { IfOk result (λ r. r.0.bounds ≡ plan.bounds) }
     ensures password { IfOk result (λ r. r.0.password ≡ plan.password) }
-    ensures journal { IfOk result (λ r. is_some r.1 ≡ is_some options.now.journal) }
-    ensures path { IfOk result (λ r. IfSome options.now.journal
-        (λ path. IfSome r.1 (λ journal. string_bytes journal.path ≡ string_bytes path))) }
+    ensures journal { IfOk result (λ r. IsOpenAt options.now.journal r.1 string_bytes
+        (λ journal. string_bytes journal.path)) }
 {
     let Some(path) = &options.journal else {
         return Ok((plan, None));
@@ -159,10 +159,11 @@ fn ready(
     listening: (TcpListener, SocketAddr),
 ) -> Result<Server, Fault>
     ensures plan { IfOk result (λ server. server.plan ≡ plan) }
-    ensures outputs { IfOk result (λ server.
-        IsOutputOf (is_some journal) (is_some options.now.relay) server.events) }
-    ensures journal { IfOk result (λ server. IfSome journal
-        (λ opened. HasPath (string_bytes opened.path) server.events)) }
+    ensures journal { IfOk result (λ server. server.outputs.journal ≡ journal) }
+    ensures relay { IfOk result (λ server. IsOpenAt options.now.relay server.outputs.relay
+        string_bytes (λ relay. string_bytes relay.path)) }
+    ensures state { IfOk result (λ server. IfSome server.outputs.relay (λ opened. (w : World)
+        → StandsFor plan.recorder.core w → opened.relay.is_on ≡ is_on w)) }
 {
     let (listener, address) = listening;
     let relay = RelayOptions {
@@ -170,15 +171,20 @@ fn ready(
         mode: mode_of(&options.bounds),
         is_verbose: options.bounds.is_verbose,
     };
-    match open_outputs(rt, log, relay, plan.recorder.core(), journal) {
-        Ok(events) => Ok(Server {
+    let path = match &journal {
+        Some(journal) => Some(journal.path.as_str()),
+        None => None,
+    };
+    match open_relay(rt, log, relay, plan.recorder.core(), path) {
+        Ok(relay) => Ok(Server {
             plan,
-            events,
+            outputs: ServerOutputs { journal, relay },
             listener,
             address,
         }),
         Err(fault) => {
             drop(plan);
+            drop(journal);
             Err(fault)
         }
     }
@@ -198,15 +204,18 @@ fn report_no_journal(rt: &HostRuntime, log: &Log, options: &ServeOptions) {
 
 // Prepares a server up to the first client: validates the options, reads the trace to resume from,
 // opens the journal, listens, and opens the relay. The server has the limits and the password of
-// the options, a journal if they name one, at their path, and a relay if they name one.
+// the options, a journal if they name one, at their path, and a relay if they name one, at theirs,
+// which was given the supply output of the server's meter.
 pub(crate) fn begin(rt: &HostRuntime, log: &Log, options: &ServeOptions) -> Result<Server, Fault>
     ensures bounds { IfOk result (λ server. server.plan.bounds ≡ options.now.bounds) }
     ensures password { IfOk result
         (λ server. server.plan.password ≡ string_bytes options.now.password) }
-    ensures outputs { IfOk result (λ server. IsOutputOf (is_some options.now.journal)
-        (is_some options.now.relay) server.events) }
-    ensures path { IfOk result (λ server. IfSome options.now.journal
-        (λ path. HasPath (string_bytes path) server.events)) }
+    ensures journal { IfOk result (λ server. IsOpenAt options.now.journal server.outputs.journal
+        string_bytes (λ journal. string_bytes journal.path)) }
+    ensures relay { IfOk result (λ server. IsOpenAt options.now.relay server.outputs.relay
+        string_bytes (λ relay. string_bytes relay.path)) }
+    ensures state { IfOk result (λ server. IfSome server.outputs.relay (λ opened. (w : World)
+        → StandsFor server.plan.recorder.core w → opened.relay.is_on ≡ is_on w)) }
 {
     let plan = plan_server(rt, log, options)?;
     report_other_name(rt, log, options, &plan.recorder);

@@ -1,5 +1,4 @@
 -- What the contracts of the journal and the relay file of `meter_server serve` refer to.
 pub mod Faults
 pub mod Journals
-pub mod Outputs
 pub mod Paths

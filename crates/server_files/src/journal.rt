@@ -1,7 +1,7 @@
 //! The journal of a server: its file, its lock, and the recorder that resumes where it ends.
 ghost use Rattle.std.specs.Prelude.{◌≡◌, [], false, true, IfOk, IfErr, IsErrOf, OnOk};
 ghost use Rattle.std.specs.Prelude.{length, string_bytes};
-ghost use Rattle.durable_lines.specs.Lines.{IsSettled};
+ghost use Rattle.durable_lines.specs.Lines.{IsReady};
 ghost use Rattle.journal_files.specs.Journals.{Continues, IsBegun};
 ghost use Rattle.journal_files.specs.RenewedFile.{terms_of};
 ghost use Rattle.relay_core.specs.Opening.{opening_of};
@@ -41,13 +41,16 @@ pub struct JournalOptions {
     pub mode: u32,
 }
 
+/// The file of a journal, which is renewed when it has grown.
+pub type StoredJournal<R> = RenewedFile<OsStoredPlace<R>>;
+
 /// An open journal: its path, its file, and the lock that keeps other servers from it.
 #[derive(Drop)]
 pub struct OpenJournal<R: Files<File = File> + Drop> {
     /// The path of the journal.
     pub path: String,
     /// The file, which is renewed when it has grown.
-    pub file: RenewedFile<OsStoredPlace<R>>,
+    pub file: StoredJournal<R>,
     /// The lock file.
     pub lock: LockFile,
 }
@@ -96,10 +99,10 @@ fn resume_named<P: Place>(
     requires { IsCapacity depth }
     ensures unused { IfOk result (λ resumed. length resumed.recorder.events ≡ 0) }
     ensures capacity { IfOk result (λ resumed. resumed.recorder.capacity ≡ depth) }
-    ensures continues { IfOk result (λ resumed. P.acts_as_file
-        → Continues (opening_of recorder.now.core).device (P.seen place.old) resumed.recorder) }
-    ensures settled { IfOk result (λ resumed. P.acts_as_file
-        → IsSettled P.seen P.may_leave P.identity P.stored place.new) }
+    ensures continues { IfOk result (λ resumed. P.model.acts
+        → Continues (opening_of recorder.now.core).device (P.model.seen place.old)
+        resumed.recorder) }
+    ensures settled { OnOk result (IsReady P.model place.new) }
 {
     let opening = recorder.core().to_opening(alloc)?;
     let resumed = resume_journal(alloc, place, &opening.device, depth);
@@ -114,7 +117,7 @@ fn renew_resumed<P: Place>(
     recorder: Recorder,
     terms: RenewalTerms,
 ) -> Result<Recorder, StartFault>
-    requires { P.acts_as_file → IsSettled P.seen P.may_leave P.identity P.stored place.old }
+    requires { IsReady P.model place.old }
     ensures { IfOk result (λ resumed. resumed ≡ recorder) }
 {
     match renew_long_journal(alloc, place, terms.depth, terms.limit) {
@@ -138,8 +141,8 @@ fn resume_in_place<E: Eprint, P: Place>(
 ) -> Result<Recorder, StartFault>
     ensures unused { IfOk result (λ resumed. length resumed.events ≡ 0) }
     ensures capacity { IfOk result (λ resumed. resumed.capacity ≡ depth_for options) }
-    ensures continues { IfOk result (λ resumed. P.acts_as_file
-        → Continues (opening_of recorder.now.core).device (P.seen place.old) resumed) }
+    ensures continues { IfOk result (λ resumed. P.model.acts
+        → Continues (opening_of recorder.now.core).device (P.model.seen place.old) resumed) }
 {
     let depth = depth_of(options);
     let Resumed { recorder, cut } = resume_named(alloc, place, recorder, depth)?;
@@ -163,10 +166,10 @@ fn open_in_place<E: Eprint, P: Place>(
 ) -> Result<Recorder, StartFault>
     requires { length recorder.events ≡ 0 }
     ensures unused { IfOk result (λ last. length last.events ≡ 0) }
-    ensures resumed { IfOk result (λ last. has_file ≡ true → P.acts_as_file
-        → Continues (opening_of recorder.core).device (P.seen place.old) last) }
-    ensures journal { OnOk result (has_file ≡ false → P.acts_as_file
-        → IsBegun recorder (P.seen place.new) (P.may_leave place.new)) }
+    ensures resumed { IfOk result (λ last. has_file ≡ true → P.model.acts
+        → Continues (opening_of recorder.core).device (P.model.seen place.old) last) }
+    ensures journal { OnOk result (has_file ≡ false → P.model.acts
+        → IsBegun recorder (P.model.seen place.new) (P.model.may_leave place.new)) }
     ensures given { IfOk result (λ last. has_file ≡ false → last ≡ recorder) }
 {
     if has_file {

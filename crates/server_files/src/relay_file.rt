@@ -1,7 +1,9 @@
 //! The file of a relay: it is opened again if its path names another file.
 use crate::paths::with_suffix;
+use crate::relay::{RelayOptions, supply};
 use durable_lines::{FileAccess, is_same_file, open_or_create, open_own};
 use libc::types::pollfd;
+use meter_journal::{JournalFault, SupplyOutput};
 use session_log::{Log, LogTime};
 use std::alloc::Global;
 use std::fs::{File, Files, Metadata};
@@ -14,13 +16,15 @@ use std::{fs, io};
 /// The file that is given the supply output. Before each change it is compared with the file that
 /// its path names. If that is another one, or none, it is opened again, and made if it is missing,
 /// with a line in the log. A named pipe that was removed is not made: the write fails. For a named
-/// pipe the log also reports that the change before has not been read.
+/// pipe the log also reports that the change before has not been read. If this is enabled, the log
+/// has a line for each change.
 #[derive(Drop)]
 pub struct RelayFile<R> {
     rt: R,
     log: Log,
     path: String,
     mode: u32,
+    is_verbose: bool,
     file: File,
     is_pipe: bool,
     // Whether it was reported that the change before has not been read.
@@ -38,24 +42,25 @@ fn has_unread(pipe: &File) -> bool {
 }
 
 impl<R: Clock + Files<File = File> + Copy> RelayFile<R> {
-    // Opens the file of a path, which is made with these permissions if it is missing. The open
-    // does not wait: a named pipe is opened for reading, too, so that it keeps what is written
-    // until a reader opens it.
+    // Opens the file of a path, which is made with the permissions of the options if it is missing.
+    // The open does not wait: a named pipe is opened for reading, too, so that it keeps what is
+    // written until a reader opens it.
     pub(crate) fn open(
         rt: R,
         log: Log,
         alloc: Global,
         path: &str,
-        mode: u32,
+        options: RelayOptions<'_>,
     ) -> io::Result<RelayFile<R>> {
-        let file = open_or_create(&rt, path, FileAccess::Append, mode)?;
+        let file = open_or_create(&rt, path, FileAccess::Append, options.mode)?;
         let is_pipe = file.metadata()?.file_type().is_fifo();
         let path = with_suffix(alloc, path, "")?;
         Ok(RelayFile {
             rt,
             log,
             path,
-            mode,
+            mode: options.mode,
+            is_verbose: options.is_verbose,
             file,
             is_pipe,
             is_unread: false,
@@ -124,5 +129,19 @@ impl<R: Clock + Files<File = File> + Copy> Write for RelayFile<R> {
 
     fn flush(&mut self) -> io::Result<()> {
         self.file.flush()
+    }
+}
+
+impl<R: Clock + Files<File = File> + Copy + Drop> SupplyOutput for RelayFile<R> {
+    fn report_change(&self, is_on: bool) {
+        if self.is_verbose {
+            let now = LogTime::now(&self.rt);
+            let _ = eprintln!(self.log; "{now} {}", supply(is_on));
+        }
+    }
+
+    fn report_failure(&self) {
+        let fault = JournalFault::Relay;
+        let _ = eprintln!(self.log; "{}: the relay failed: {fault}", self.path);
     }
 }

@@ -1,11 +1,14 @@
-//! The relay of a server: its file, and what is reported of it in the log.
-ghost use Rattle.std.specs.Prelude.{◌≡◌, true, IfErr};
+//! The relay of a server.
+ghost use Rattle.std.specs.Prelude.{◌≡◌, true, is_some, string_bytes, IfErr, IfOk, IfSome};
+ghost use Rattle.relay_core.specs.Stands.{StandsFor};
+ghost use Rattle.relay_core.specs.World.{World};
+ghost use Rattle.shared_meter.specs.Switching.{is_on};
 ghost use Rattle.server_files.specs.Faults.{is_of_opening};
 
 use crate::paths::{CUT_SUFFIX, LOCK_SUFFIX, place_paths, with_suffix};
 use crate::relay_file::RelayFile;
 use durable_lines::is_same_file;
-use meter_relay::{ChangeReport, Relay, RelayFault};
+use meter_journal::Relay;
 use program::Fault;
 use relay_core::RelayCore;
 use session_log::{Log, LogTime};
@@ -15,20 +18,8 @@ use std::io::ErrorKind;
 use std::time::Clock;
 use std::{fs, io};
 
-// The maximum number of bytes of an event's line that are shown.
-const MAX_SHOWN: usize = 80;
-
 // The maximum number of files before a renewal that are kept.
 const MAX_KEPT: u16 = 99;
-
-/// Reports the changes of a relay in the log, if this is enabled, and why it failed.
-#[derive(Drop)]
-pub struct RelayLog<R> {
-    rt: R,
-    log: Log,
-    path: String,
-    is_verbose: bool,
-}
 
 /// The relay that a command line names.
 #[derive(Clone, Copy)]
@@ -41,44 +32,19 @@ pub struct RelayOptions<'a> {
     pub is_verbose: bool,
 }
 
-// Returns the beginning of the line of an event.
-fn shown(cause: &[u8]) -> &str {
-    let front = cause.get(..MAX_SHOWN).unwrap_or(cause);
-    str::from_utf8(front).unwrap_or("an event")
+/// An open relay: its path, and the relay, which was given the supply output, and no change.
+#[derive(Drop)]
+pub struct OpenRelay<R: Clock + Files<File = File> + Copy + Drop> {
+    /// The path of the relay.
+    pub path: String,
+    /// The relay.
+    pub relay: Relay<RelayFile<R>>,
+    ghost fresh: { relay.given ≡ 0 },
 }
 
 // Returns what is reported of an output.
-fn supply(output: bool) -> &'static str {
+pub(crate) fn supply(output: bool) -> &'static str {
     if output { "supply on" } else { "supply off" }
-}
-
-impl<R: Clock + Copy + Drop> ChangeReport for RelayLog<R> {
-    fn report_change(&self, output: bool, cause: &[u8]) {
-        if self.is_verbose {
-            let now = LogTime::now(&self.rt);
-            let _ = eprintln!(self.log; "{now} {}: {}", supply(output), shown(cause));
-        }
-    }
-
-    fn report_fault(&self, fault: RelayFault) {
-        let _ = eprintln!(self.log; "{}: the relay failed: {fault}", self.path);
-    }
-}
-
-// Returns the log of the relay of a path.
-fn log_of<R: AllocGlobal + Copy>(
-    rt: &R,
-    log: &Log,
-    path: &str,
-    is_verbose: bool,
-) -> Result<RelayLog<R>, AllocError> {
-    let path = with_suffix(rt.alloc(), path, "")?;
-    Ok(RelayLog {
-        rt: *rt,
-        log: log.share()?,
-        path,
-        is_verbose,
-    })
 }
 
 // Returns whether a path names this file.
@@ -118,7 +84,7 @@ fn open_file<R: Clock + AllocGlobal + Files<File = File> + Copy + Drop>(
     rt: &R,
     log: &Log,
     path: &str,
-    mode: u32,
+    options: RelayOptions<'_>,
     journal: Option<&str>,
 ) -> Result<RelayFile<R>, Fault>
     ensures err { IfErr result (λ fault. is_of_opening fault ≡ true) }
@@ -126,7 +92,7 @@ fn open_file<R: Clock + AllocGlobal + Files<File = File> + Copy + Drop>(
     let Ok(theirs) = log.share() else {
         return Err(Fault::Memory);
     };
-    let opened = RelayFile::open(*rt, theirs, rt.alloc(), path, mode);
+    let opened = RelayFile::open(*rt, theirs, rt.alloc(), path, options);
     let (file, metadata) = match opened {
         Ok(file) => match file.metadata() {
             Ok(metadata) => (file, metadata),
@@ -158,39 +124,60 @@ fn report_not_opened(log: &Log, path: &str, error: &io::Error) -> Fault
     Fault::Write
 }
 
-// Opens the file of a relay, which is made if it does not exist, and writes the supply output of
-// the meter with this core. What is in the file stays.
-//
-// Errors: `Write` if the file cannot be opened or written, `Input` if it is a file of the journal,
-// each with a line in the log; `Memory`.
-pub(crate) fn open_relay<R: Clock + AllocGlobal + Files<File = File> + Copy + Drop>(
+// Opens the relay of a path, and writes the supply output to it.
+fn start_relay<R: Clock + AllocGlobal + Files<File = File> + Copy + Drop>(
     rt: &R,
     log: &Log,
     path: &str,
     options: RelayOptions<'_>,
-    core: &RelayCore,
+    is_on: bool,
     journal: Option<&str>,
-) -> Result<Relay<RelayFile<R>, RelayLog<R>>, Fault>
+) -> Result<OpenRelay<R>, Fault>
+    ensures path { IfOk result (λ opened. string_bytes opened.path ≡ path.now) }
+    ensures state { IfOk result (λ opened. opened.relay.is_on ≡ is_on) }
     ensures err { IfErr result (λ fault. is_of_opening fault ≡ true) }
 {
-    let file = open_file(rt, log, path, options.mode, journal)?;
-    let Ok(report) = log_of(rt, log, path, options.is_verbose) else {
+    let file = open_file(rt, log, path, options, journal)?;
+    let Ok(named) = with_suffix(rt.alloc(), path, "") else {
         return Err(Fault::Memory);
     };
-    let Ok(core) = core.try_copy(rt.alloc()) else {
-        return Err(Fault::Memory);
-    };
-    let output = core.output();
-    let relay = match Relay::start(core, file, report) {
-        Ok(relay) => relay,
+    match Relay::start(is_on, file) {
+        Ok(relay) => Ok(OpenRelay { path: named, relay }),
         Err(fault) => {
             let _ = eprintln!(log; "{path}: the relay failed: {fault}");
-            return Err(Fault::Write);
+            Err(Fault::Write)
         }
+    }
+}
+
+/// Opens the relay of the options, if they name one, and writes the supply output of the meter with
+/// this core to it. Its file is made if it does not exist; what is in it stays. `journal` is the
+/// path of the meter's journal, if it has one.
+///
+/// Errors: `Write` if the file can't be opened or written, `Input` if it is one of the journal,
+/// each with a line in the log; `Memory`.
+pub fn open_relay<R: Clock + AllocGlobal + Files<File = File> + Copy + Drop>(
+    rt: &R,
+    log: &Log,
+    options: RelayOptions<'_>,
+    core: &RelayCore,
+    journal: Option<&str>,
+) -> Result<Option<OpenRelay<R>>, Fault>
+    ensures is_some { IfOk result (λ opened. is_some opened ≡ is_some options.entry.path) }
+    ensures path { IfOk result (λ opened. IfSome options.entry.path
+        (λ path. IfSome opened (λ o. string_bytes o.path ≡ path.now))) }
+    ensures state { IfOk result (λ opened. IfSome opened (λ o. (w : World) → StandsFor core.now w
+        → o.relay.is_on ≡ is_on w)) }
+    ensures err { IfErr result (λ fault. is_of_opening fault ≡ true) }
+{
+    let Some(path) = options.path else {
+        return Ok(None);
     };
+    let output = core.output();
+    let opened = start_relay(rt, log, path, options, output, journal)?;
     if options.is_verbose {
         let now = LogTime::now(rt);
         let _ = eprintln!(log; "{now} {} at the start, relay {path}", supply(output));
     }
-    Ok(relay)
+    Ok(Some(opened))
 }
