@@ -114,7 +114,7 @@ def the_meter_itself_moves_the_relay(name):
         check(f"{name}: the button", text_when(relay, "1\n0\n1\n0\n1\n") == "1\n0\n1\n0\n1\n", relay.read_text())
         client.close()
         status, _, errors = server.end()
-        check(f"{name}: the end", status == 0 and errors.endswith(ON), status, errors)
+        check(f"{name}: the end", status == 0 and errors.count(ON) == 2, status, errors)
 
 
 def a_pipe_keeps_what_is_written(name):
