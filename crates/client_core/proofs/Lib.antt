@@ -5,3 +5,4 @@ mod Clients
 mod Passwords
 pub mod Requests
 pub mod Accepting
+pub mod Due

@@ -5,7 +5,8 @@
 --     Feeds             feed: the bytes follow those fed before, unless the connection is over
 --     Ends              ended: the connection is over
 --     Tells             outcome: the outcome, once it is settled or the connection is over
-use Rattle.std.specs.Prelude.{◌≡◌, ℕ, zero, suc, Bool, true, is_some, if◌then◌else◌, Option, Some, None, List, ◌++◌}
+--     TellsRequest      is_request_due: the association is open, and the request not yet returned
+use Rattle.std.specs.Prelude.{◌≡◌, ◌&&◌, ℕ, zero, suc, Bool, true, false, is_some, if◌then◌else◌, Option, Some, None, List, ◌++◌}
 use Rattle.client_core.specs.declared.client.Client.{Client}
 use Rattle.client_core.specs.declared.job.Verb.{Verb}
 use Rattle.client_core.specs.declared.job.Outcome.{Outcome}
@@ -69,3 +70,15 @@ pub record Tells (c : Client) (result : Option Outcome) : Type 0 where
       → Stands verb password fed given over c
       → (outcome : Outcome) → outcome_after verb fed ≡ Some outcome → (more : List ℕ)
       → outcome_of verb (fed ++ more) ≡ outcome
+
+-- whether the second message is the next one
+abbrev pub is_second : ℕ → Bool
+is_second zero = false
+is_second (suc zero) = true
+is_second (suc (suc n)) = false
+
+-- whether the answer says that the next message is the request
+pub record TellsRequest (c : Client) (result : Bool) : Type 0 where
+  pub told : (verb : Verb) (password fed : List ℕ) (given : ℕ) (over : Bool)
+      → Stands verb password fed given over c
+      → result ≡ (is_second given && (progress_of verb fed).accepted)

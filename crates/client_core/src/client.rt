@@ -4,6 +4,7 @@ ghost use Rattle.std.specs.Prelude.{◌≡◌, [], false, IfOk, OnOk, OnErr};
 ghost use Rattle.acse_ber.specs.Password.{IsPassword};
 ghost use Rattle.client_core.specs.Outcomes.{is_served};
 ghost use Rattle.client_core.specs.Standing.{Stands, GivesNextMessage, Feeds, Ends, Tells};
+ghost use Rattle.client_core.specs.Standing.{TellsRequest};
 
 use crate::job::{Job, Outcome, Verb};
 use crate::listening::hear_more;
@@ -81,6 +82,15 @@ impl Client {
             }
         }
         None
+    }
+
+    /// Returns whether the next message is the request: the association is open, and the request
+    /// has not been returned yet.
+    #[tactic(auto, using(crate::proofs::Due::tells_request))]
+    pub fn is_request_due(&self) -> bool
+        ensures { TellsRequest self.now result }
+    {
+        self.aarq.is_none() && self.request.is_some() && self.progress.accepted
     }
 
     /// Processes the next bytes of the meter's connection, which may be split anywhere. Bytes after
