@@ -1,2 +1,3 @@
 pub mod GrantLemmas
+pub mod MemoryLemmas
 pub mod RunLemmas

@@ -2,5 +2,6 @@
 pub mod Entries
 pub mod Faults
 pub mod Grants
+pub mod Groups
 pub mod MemoryBook
 pub mod Runs

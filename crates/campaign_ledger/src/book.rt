@@ -1,18 +1,28 @@
 //! `Book`: the storage of a ledger, with what a crash may leave of it.
-ghost use Rattle.std.specs.Prelude.{◌≡◌, ◌≢◌, ℕ, IfOk, IsFalse, IsTrue, OnOk};
+ghost use Rattle.std.specs.Prelude.{◌≡◌, ◌≢◌, ℕ, true, IfOk, IsFalse, IsTrue, OnOk};
 ghost use Rattle.client_core.specs.declared.job.Outcome.{Outcome};
 ghost use Rattle.campaign_ledger.specs.declared.entry.LedgerEntry.{LedgerEntry};
 ghost use Rattle.campaign_ledger.specs.declared.entry.LedgerEntry.TheVariants.{Came};
 ghost use Rattle.campaign_ledger.specs.Entries.{HasGone};
+ghost use Rattle.campaign_ledger.specs.Groups.{has, has_outcome};
 
 use crate::entry::LedgerEntry;
 use crate::fault::LedgerFault;
 use client_core::Outcome;
 
+/// The outcome of a place.
+#[derive(Clone, Copy, Debug, PartialEq, Eq)]
+pub struct PlaceOutcome {
+    /// The number of the job in its campaign's list, counted from 0.
+    pub place: u32,
+    /// Its outcome.
+    pub outcome: Outcome,
+}
+
 /// Storage of a ledger that outlives a crash: the places whose commands may have been sent, and the
 /// outcomes. Its ghost members say what a crash may leave.
 ///
-/// After a call failed, nothing is known of the call's entry. What was marked before remains
+/// After a call failed, nothing is known of the call's entries. What was marked before remains
 /// marked, and the outcome of every other place remains stored.
 pub trait Book: Drop {
     // Ghost predicate: no wrong answer of the storage was taken as true. The clauses hold only
@@ -50,6 +60,25 @@ pub trait Book: Drop {
         ensures remains_marked { is_honest self.new → (other : ℕ) → is_marked self.old other
             → is_marked self.new other }
         ensures remains_kept { is_honest self.new → (other : ℕ) (kept : Outcome) → other ≢ place
+            → keeps self.old other kept → keeps self.new other kept };
+
+    /// Marks places and stores outcomes in one step: a crash leaves all of them or none. The
+    /// commands of these places may be sent after it returned `Ok`. A place may be in both lists.
+    ///
+    /// Fails if a place was marked before or has an outcome, if it is twice in one of the lists, or
+    /// if it cannot be marked or its outcome cannot be stored. After such an error none of them is
+    /// stored; if the storage failed, all or none.
+    fn commit(&mut self, marks: &[u32], outcomes: &[PlaceOutcome]) -> Result<(), LedgerFault>
+        ensures honest { is_honest self.new → is_honest self.old }
+        ensures fresh { is_honest self.new → OnOk result ((place : ℕ)
+            → has place marks.now ≡ true → ¬ is_marked self.old place) }
+        ensures durable { is_honest self.new → OnOk result ((place : ℕ)
+            → has place marks.now ≡ true → is_marked self.new place) }
+        ensures recorded { is_honest self.new → OnOk result ((place : ℕ) (outcome : Outcome)
+            → has_outcome place outcome outcomes.now → keeps self.new place outcome) }
+        ensures remains_marked { is_honest self.new → (other : ℕ) → is_marked self.old other
+            → is_marked self.new other }
+        ensures remains_kept { is_honest self.new → (other : ℕ) (kept : Outcome)
             → keeps self.old other kept → keeps self.new other kept };
 
     // Ghost law: a place that is marked is marked after a crash.

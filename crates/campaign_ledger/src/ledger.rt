@@ -187,4 +187,13 @@ impl<B: Book> Ledger<B> {
         drop(entries);
         book
     }
+
+    /// Drops the ledger, and returns its book and its entries.
+    pub fn into_parts(self) -> (B, Vec<LedgerEntry>)
+        ensures book { result.0 ≡ self.book }
+        ensures entries { result.1.items ≡ self.entries }
+    {
+        let Ledger { book, entries, .. } = self;
+        (book, entries)
+    }
 }

@@ -15,7 +15,7 @@ mod ledger;
 mod memory_book;
 mod permit;
 
-pub use book::Book;
+pub use book::{Book, PlaceOutcome};
 pub use entry::LedgerEntry;
 pub use fault::LedgerFault;
 pub use laws::{

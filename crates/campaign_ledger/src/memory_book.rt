@@ -1,9 +1,11 @@
 //! `MemoryBook`: a book in memory, for tests.
-ghost use Rattle.std.specs.Prelude.{◌≡◌, ◌-◌, ◌^◌, ⊤, false};
+ghost use Rattle.std.specs.Prelude.{◌≡◌, ◌-◌, ◌^◌, ⊤, false, OnOk};
+ghost use Rattle.campaign_ledger.specs.Entries.{entry_at};
+ghost use Rattle.campaign_ledger.specs.MemoryBook.{EntersMarks, EntersOutcomes};
 ghost use Rattle.campaign_ledger.specs.MemoryBook.{LeavesEntries, IsMarked, IsKept};
 ghost use Rattle.campaign_ledger.specs.MemoryBook.{left_marked, left_kept};
 
-use crate::book::Book;
+use crate::book::{Book, PlaceOutcome};
 use crate::entry::LedgerEntry;
 use crate::fault::LedgerFault;
 use client_core::Outcome;
@@ -78,6 +80,50 @@ impl MemoryBook {
     }
 }
 
+// Returns the entry of a place in a list: `MaybeSent` if it has no such place.
+fn entry_in(entries: &[LedgerEntry], place: u32) -> LedgerEntry
+    ensures { result ≡ entry_at entries.now place }
+{
+    match entries.get(place as usize) {
+        Some(entry) => *entry,
+        None => LedgerEntry::MaybeSent,
+    }
+}
+
+// Marks places: the entry of each was `NotSent`. Fails if it was not, also by an earlier one of
+// these places.
+fn enter_marks(entries: &mut Vec<LedgerEntry>, marks: &[u32]) -> Result<(), LedgerFault>
+    ensures { OnOk result (EntersMarks marks.now entries.old.items entries.new.items) }
+{
+    'marks: for place in marks {
+        if entry_in(entries, *place) != LedgerEntry::NotSent {
+            return Err(LedgerFault::Failed);
+        }
+        entries[*place as usize] = LedgerEntry::MaybeSent;
+    }
+    Ok(())
+}
+
+// Sets the entries of places to their outcomes: none had one. Fails if one had, also by an earlier
+// one of these outcomes.
+fn enter_outcomes(
+    entries: &mut Vec<LedgerEntry>,
+    outcomes: &[PlaceOutcome],
+) -> Result<(), LedgerFault>
+    ensures { OnOk result (EntersOutcomes outcomes.now entries.old.items entries.new.items) }
+{
+    'outcomes: for ended in outcomes {
+        let place = ended.place as usize;
+        if place >= entries.len()
+            || matches!(entry_in(entries, ended.place), LedgerEntry::Came(_))
+        {
+            return Err(LedgerFault::Failed);
+        }
+        entries[place] = LedgerEntry::Came(ended.outcome);
+    }
+    Ok(())
+}
+
 impl Book for MemoryBook {
     ghost is_honest = { λ _. ⊤ };
 
@@ -119,5 +165,19 @@ impl Book for MemoryBook {
                 Err(LedgerFault::Failed)
             }
         }
+    }
+
+    fn commit(&mut self, marks: &[u32], outcomes: &[PlaceOutcome]) -> Result<(), LedgerFault> {
+        self.count_call()?;
+        self.has_failed = true;
+        let alloc = *self.entries.allocator();
+        let Ok(mut entries) = Vec::from_slice(alloc, self.entries.as_slice()) else {
+            return Err(LedgerFault::Memory);
+        };
+        enter_marks(&mut entries, marks)?;
+        enter_outcomes(&mut entries, outcomes)?;
+        self.entries = entries;
+        self.has_failed = false;
+        Ok(())
     }
 }

@@ -1,7 +1,5 @@
 -- What the run after a crash finds.
-use Rattle.std.proofs.Common.{◌≡◌, ℕ, ℤ, pos, IsTrue, sym, ap, subst, ◌∙◌}
-use Rattle.std.proofs.Math.Logic.{∥∥₁_elim}
-use mathlib.Core.Bool.{Bool-set}
+use Rattle.std.proofs.Common.{◌≡◌, ℕ, pos, IsTrue, sym, ap, subst, ◌∙◌}
 use Rattle.sqlite_disk.specs.declared.Disk.{Ghosts}
 use Rattle.sqlite.specs.declared.FileStore.{FileStore}
 use Rattle.sqlite_store.specs.FileStore.{view, recovers, state}

@@ -2,6 +2,8 @@
 -- it refer to.
 pub mod Answered
 pub mod Asked
+pub mod Closings
+pub mod Faults
 pub mod Opened
 pub mod Reading
 pub mod Runs

@@ -1,7 +1,7 @@
 -- A run of a campaign on a ledger in a file.
 --     IsEnd             how a ledger ended, by whether a call on it failed
 --     IsRunOnFile       the open found what the file held, and the run was on this ledger
-use Rattle.std.specs.Prelude.{◌≡◌, ℕ, pos, false, List, length, Option, Some, None, Result, IsTrue}
+use Rattle.std.specs.Prelude.{◌≡◌, ℕ, pos, false, List, Option, Some, None, Result, IsTrue}
 use Rattle.sqlite_disk.specs.declared.Disk.{Ghosts}
 use Rattle.sqlite.specs.declared.FileStore.{FileStore}
 use Rattle.sqlite.specs.Held.{Held}
@@ -40,7 +40,7 @@ pub record IsRunOnFile {D F : Type 0} (g : Ghosts D) (held : Image)
   pub schema_is : start.book.schema ≡ ledger_schema
   pub end_is : IsEnd now end
   pub opened : HasCleanDisk (file_state start.book)
-      → IsLedgerFrom held start.book (length jobs) start.entries
+      → IsLedgerFrom held start.book jobs start.entries
   pub run : IsRunOnLedger (λ book. HasCleanDisk (file_state book))
       (λ book place. IsMarked (file_state book).may_leave (pos place))
       (λ book place outcome. IsSafe (file_state book).may_leave (pos place) outcome)

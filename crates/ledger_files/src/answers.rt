@@ -2,10 +2,12 @@
 ghost use Rattle.std.specs.Prelude.{◌++◌, ◌≡◌, codes, string_bytes, IfOk, OnOk};
 ghost use Rattle.sqlite.specs.Held.{state};
 ghost use Rattle.sqlite.specs.WalFiles.{image_at};
+ghost use Rattle.ledger_files.specs.Closings.{IsClosedWhole};
+ghost use Rattle.ledger_files.specs.Faults.{answers_fault};
 ghost use Rattle.ledger_files.specs.Answered.{AreAppended, AreAppendedTo, AreRecorded};
 ghost use Rattle.ledger_files.specs.Reading.{AreAnswersFrom, AreAnswersRead};
 
-use crate::disks::{append_on_disk, read_answers_on_disk};
+use crate::disks::{append_on_disk, close_whole, read_answers_on_disk};
 use crate::make_private;
 use crate::reading::has_log;
 use ledger_reports::StateAnswer;
@@ -30,7 +32,9 @@ fn answers_path(alloc: Global, path: &str) -> Result<String, AllocError>
 }
 
 // Returns the fault for an error of SQLite while a file of answers is opened.
-fn answers_fault(error: Error) -> LedgerOpenFault {
+fn answers_fault(error: Error) -> LedgerOpenFault
+    ensures { result ≡ answers_fault error }
+{
     match LedgerOpenFault::from(error) {
         LedgerOpenFault::NotALedger => LedgerOpenFault::Answers,
         fault => fault,
@@ -69,10 +73,13 @@ pub(crate) fn append_all<T: Alter + Drop>(
 }
 
 // Closes the connection to a file of answers: the file then has all answers, without its log.
-fn close_answers<D: Disk + Drop>(conn: Connection<FileStore<D>>) -> Result<(), LedgerOpenFault> {
-    match conn.close() {
-        Ok(()) => Ok(()),
-        Err(_) => Err(LedgerOpenFault::File),
+fn close_answers<D: Disk + Drop>(conn: Connection<FileStore<D>>) -> Result<(), LedgerOpenFault>
+    ensures { OnOk result (IsClosedWhole conn) }
+{
+    if close_whole(conn) {
+        Ok(())
+    } else {
+        Err(LedgerOpenFault::File)
     }
 }
 

@@ -47,7 +47,8 @@ pub(crate) fn run_on_connection<
 
 // Returns whether a ledger has failed, and its connection.
 pub(crate) fn take_apart<T: Alter + Drop>(ledger: Ledger<SqliteBook<T>>) -> (bool, Connection<T>)
-    ensures { result.0 ≡ ledger.has_failed }
+    ensures failed { result.0 ≡ ledger.has_failed }
+    ensures conn { result.1 ≡ ledger.book }
 {
     let has_failed = ledger.has_failed();
     (has_failed, ledger.into_book().into_connection())

@@ -3,16 +3,18 @@
 //! A call that passes on the store of a file makes the proof read how that store works, which costs
 //! less over any disk than over a certain one. So these calls are here, once each, and the rest of
 //! the crate calls them.
-ghost use Rattle.std.specs.Prelude.{◌≡◌, [], length, pos, replicate, Some, IfOk, OnOk, false};
+ghost use Rattle.std.specs.Prelude.{◌≡◌, [], length, pos, replicate, Some, IfOk, OnOk, false, IsTrue};
 ghost use Rattle.sqlite.specs.State.{HasCleanDisk, IsUnchanged};
 ghost use Rattle.sqlite.specs.Files.{file_state};
 ghost use Rattle.campaign_ledger.specs.declared.entry.LedgerEntry.TheVariants.{NotSent};
 ghost use Rattle.sqlite_ledger.specs.Marks.{IsMarked, LeavesCommit, LeavesEntries};
 ghost use Rattle.sqlite_ledger.specs.Outcomes.{IsSafe};
-ghost use Rattle.sqlite_ledger.specs.Readings.{HasEntries};
+ghost use Rattle.sqlite_ledger.specs.Lines.{HasLedger};
 ghost use Rattle.sqlite_ledger.specs.Schema.{ledger_schema};
 ghost use Rattle.ledger_campaigns.specs.Texts.{IsRunOnLedger};
+ghost use Rattle.ledger_files.specs.declared.end.LedgerEnd.TheVariants.{Closed};
 ghost use Rattle.ledger_files.specs.Answered.{AreAppended};
+ghost use Rattle.ledger_files.specs.Closings.{IsClosedWhole};
 ghost use Rattle.ledger_files.specs.Reading.{AreAnswersRead, AreLinesRead};
 ghost use Rattle.ledger_files.specs.Runs.{IsEnd};
 
@@ -45,9 +47,9 @@ pub(crate) fn open_on_disk<D: Disk + Drop>(
 ) -> Result<Ledger<DiskBook<D>>, LedgerOpenFault>
     ensures schema { IfOk result (λ ledger. ledger.book.schema ≡ ledger_schema) }
     ensures len { IfOk result (λ ledger. length ledger.entries ≡ length jobs.now) }
-    ensures entries { conn.schema ≡ ledger_schema → IfOk result (λ ledger.
-        HasCleanDisk (file_state ledger.book) → HasEntries (λ c. file_state c) conn ledger.book
-        (length jobs.now) ledger.entries) }
+    ensures ledger { conn.schema ≡ ledger_schema → IfOk result (λ ledger.
+        HasCleanDisk (file_state ledger.book) → HasLedger (λ c. file_state c) conn ledger.book
+        jobs.now ledger.entries) }
     ensures new { conn.schema.tables ≡ []
         → IfOk result (λ ledger. ledger.entries ≡ replicate (length jobs.now) NotSent) }
     ensures unfailed { IfOk result (λ ledger. ledger.has_failed ≡ false) }
@@ -91,15 +93,36 @@ pub(crate) fn run_on_disk<
     run_on_connection(threads, alloc, plan, ledger, connector)
 }
 
+// Closes a connection, and returns whether that reported no error: the file then has all that was
+// committed, without its log.
+pub(crate) fn close_whole<D: Disk + Drop>(conn: Connection<FileStore<D>>) -> bool
+    ensures { IsTrue result → IsClosedWhole conn }
+{
+    match conn.close_files() {
+        Ok(files) => {
+            drop(files);
+            true
+        }
+        Err((_, store)) => {
+            drop(store.close());
+            false
+        }
+    }
+}
+
 // Closes a ledger, and returns how it ended.
 pub(crate) fn close_on_disk<D: Disk + Drop>(ledger: Ledger<DiskBook<D>>) -> LedgerEnd
-    ensures { IsEnd (Some ledger) result }
+    ensures end { IsEnd (Some ledger) result }
+    ensures closed { result ≡ Closed → IsClosedWhole ledger.book }
 {
     let (has_failed, conn) = take_apart(ledger);
-    match conn.close() {
-        _ if has_failed => LedgerEnd::Failed,
-        Ok(()) => LedgerEnd::Closed,
-        Err(_) => LedgerEnd::NotClosed,
+    let is_closed = close_whole(conn);
+    if has_failed {
+        LedgerEnd::Failed
+    } else if is_closed {
+        LedgerEnd::Closed
+    } else {
+        LedgerEnd::NotClosed
     }
 }
 

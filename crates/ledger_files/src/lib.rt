@@ -57,7 +57,7 @@ pub fn open_ledger_from<S: Start>(
     ensures len { IfOk result (λ ledger. length ledger.entries ≡ length jobs.now) }
     ensures unfailed { IfOk result (λ ledger. ledger.has_failed ≡ false) }
     ensures found { IfOk result (λ ledger. HasCleanDisk (file_state ledger.book)
-        → IsLedgerFrom (image_at S.Start) ledger.book (length jobs.now) ledger.entries) }
+        → IsLedgerFrom (image_at S.Start) ledger.book jobs.now ledger.entries) }
 {
     make_private(rt, path);
     let conn = match Connection::open_from(rt, path, false, start) {

@@ -1,13 +1,10 @@
 -- What a query of answers does to a connection: nothing.
-use Rattle.std.proofs.Common.{◌≡◌, ◌++◌, ℕ, List, Result, Ok, Err, is_ok, is_err, false, if◌then◌else◌, codes, refl}
+use Rattle.std.proofs.Common.{◌≡◌, ◌++◌, List, Result, Ok, Err, is_ok, is_err, false, if◌then◌else◌, refl}
 use Rattle.sqlite.specs.Listing.{understood}
 use Rattle.sqlite.proofs.Callers.{IsPlain}
 use Rattle.sqlite_tied.specs.Compute.{everything}
-use Rattle.sqlite_ledger.specs.Answers.{select_answers}
+use Rattle.sqlite_ledger.specs.Answers.{select_answers, select_last}
 use Rattle.sqlite_ledger.specs.AnswersSchema.{answers_schema}
-
-abbrev pub select_last : List ℕ
-select_last = codes "SELECT max(number) FROM answer"
 
 pub answers_plain : IsPlain (understood answers_schema select_answers)
 unfolding understood everything

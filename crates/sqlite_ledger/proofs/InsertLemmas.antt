@@ -1,6 +1,6 @@
 -- What an INSERT of one row does to the trees.
 use Rattle.std.proofs.Common.{◌≡◌, ◌≢◌, ◌⊎◌, inl, inr, ℕ, ℤ, List, [], ◌∷◌, Bool, true, false, cond}
-use Rattle.std.proofs.Common.{Ok, Err, Result, refl, ap, subst, ◌∙◌}
+use Rattle.std.proofs.Common.{Ok, Err, Result, refl, sym, ap, subst, ◌∙◌}
 use Rattle.std.specs.List.{AllByRecursion}
 use Rattle.sqlite.specs.declared.types.Value.{Value}
 use Rattle.sqlite.specs.declared.types.Value.TheVariants.{Null, Int}
@@ -11,6 +11,8 @@ use Rattle.sqlite.specs.Tree.{Trees}
 use Rattle.sqlite.specs.Edit.{edit_of, are_fresh, put_all, taken_by}
 use Rattle.sqlite_schema.specs.declared.schema.Keys.{Keys}
 use Rattle.sqlite_rules.specs.Action.{works, Writes}
+use Rattle.sqlite_rules.specs.Lists.{Has}
+use Rattle.sqlite_rules.proofs.TableLemmas.{put_all_adds, put_all_keeps}
 use Rattle.sqlite.specs.Cast.{cast}
 use Rattle.sqlite.specs.Kind.TheVariants.{Integer}
 use Rattle.sqlite.specs.Rowids.TheVariants.{Chosen}
@@ -25,6 +27,17 @@ pub record AddsRow (tree : ℕ) (db after : Database) (row : Row) : Type 0 where
   pub others : AllByRecursion (λ t. t.tree ≢ tree → after.trees t.tree ≡ db.trees t.tree)
       ledger_schema.tables
   pub schema : after.schema ≡ ledger_schema
+
+module _ (tree : ℕ) (db after : Database) (row : Row) (adds : AddsRow tree db after row) where
+  -- the row is there
+  pub row_added : Has (after.trees tree) row
+  row_added = subst (λ rows. Has rows row) (sym adds.rows)
+      (put_all_adds (row ∷ []) (db.trees tree) row adds.fresh (inl refl))
+
+  -- the rows that were there remain
+  pub rows_kept : (other : Row) → Has (db.trees tree) other → Has (after.trees tree) other
+  rows_kept other was = subst (λ rows. Has rows other) (sym adds.rows)
+      (put_all_keeps (row ∷ []) (db.trees tree) other adds.fresh was)
 
 -- A part that gave a value did not stop on the way.
 pub went : {B E R : Type 0} {b : B} {Stops : E → Type 0} → ((stop : E) × Stops stop × (Ok b ≡ Err

@@ -3,6 +3,7 @@ pub mod AnswerLemmas
 pub mod AnswerReads
 pub mod AnswerStates
 pub mod EntryLemmas
+pub mod GroupStates
 pub mod InsertLemmas
 pub mod InsertStates
 pub mod LineLemmas
@@ -11,4 +12,5 @@ pub mod MarkStates
 pub mod OutcomeLemmas
 pub mod OutcomeStates
 pub mod ReadLemmas
+pub mod StreamLemmas
 pub mod TakenLemmas

@@ -1,30 +1,35 @@
 -- The lines of a ledger, line by line.
 use Rattle.std.proofs.Common.{◌≡◌, ◌<◌, ◌+◌, ℕ, List, [], ◌∷◌, ◌++◌, Option, None, length, map, take}
 use Rattle.std.proofs.Common.{slice_index_or, length-append, arith, ap, refl, subst, sym, ◌∙◌}
-use Rattle.std.proofs.lemmas.List.{map_push, take_more}
+use Rattle.std.proofs.lemmas.List.{length-map, map_push, take_more}
 use Rattle.std.proofs.lemmas.List.Elements.{All-push}
 use Rattle.sqlite.specs.Order.{Row}
 use Rattle.client_core.specs.declared.job.Job.{Job}
 use Rattle.campaign_ledger.specs.declared.entry.LedgerEntry.{LedgerEntry}
 use Rattle.campaign_ledger.specs.declared.entry.LedgerEntry.TheVariants.{NotSent}
 use Rattle.ledger_reports.specs.declared.line.LedgerLine.{LedgerLine}
-use Rattle.sqlite_ledger.specs.Lines.{AreJobRows, AreLinesOf, IsJobRow}
+use Rattle.sqlite_ledger.specs.Jobs.{AreJobRows, IsJobRow}
+use Rattle.sqlite_ledger.specs.Lines.{AreLinesOf}
 
--- the next row is that of the job of one more line
-jobs_push : (place : ℕ) (rows : List Row) (lines : List LedgerLine) (row : Row) (line : LedgerLine)
-    → AreJobRows place rows lines → IsJobRow row (place + length lines) line.job
-    → AreJobRows place (rows ++ row ∷ []) (lines ++ line ∷ [])
-jobs_push place [] [] row line are is =
-    let here : place + length {A = LedgerLine} [] ≡ place = omega arith in
-    (subst (λ (at : ℕ). IsJobRow row at line.job) here is, tt)
-jobs_push place (first ∷ rows) (head ∷ lines) row line are is =
-    let here : place + length (head ∷ lines) ≡ (place + 1) + length lines = omega arith in (
+-- the next row is that of one more job
+pub jobs_push : (place : ℕ) (rows : List Row) (jobs : List Job) (row : Row) (job : Job)
+    → AreJobRows place rows jobs → IsJobRow row (place + length jobs) job
+    → AreJobRows place (rows ++ row ∷ []) (jobs ++ job ∷ [])
+jobs_push place [] [] row job are is =
+    let here : place + length {A = Job} [] ≡ place = omega arith in
+    (subst (λ (at : ℕ). IsJobRow row at job) here is, tt)
+jobs_push place (first ∷ rows) (head ∷ jobs) row job are is =
+    let here : place + length (head ∷ jobs) ≡ (place + 1) + length jobs = omega arith in (
       are.0,
-      jobs_push (place + 1) rows lines row line are.1
-          (subst (λ (at : ℕ). IsJobRow row at line.job) here is),
+      jobs_push (place + 1) rows jobs row job are.1
+          (subst (λ (at : ℕ). IsJobRow row at job) here is),
     )
-jobs_push place [] (head ∷ lines) row line are is = absurd are
-jobs_push place (first ∷ rows) [] row line are is = absurd are
+jobs_push place [] (head ∷ jobs) row job are is = absurd are
+jobs_push place (first ∷ rows) [] row job are is = absurd are
+
+-- the jobs of lines
+abbrev jobs_of : List LedgerLine → List Job
+jobs_of lines = map (λ (line : LedgerLine). line.job) lines
 
 -- one more line has the next of some parts
 part_more : {A : Type 0} (part : LedgerLine → A) (parts : List A) (none : A)
@@ -62,14 +67,17 @@ module _ (rows : List Row) (entries : List LedgerEntry) (begun ended : List (Opt
   lines_more lines new i place row job below so_far at_end at_row is_job is_new are =
       let line = line_at place job in
       let here : place ≡ i = omega (arith, so_far, at_end) in
-      let from : place ≡ 0 + length lines = omega (arith, at_end) in
+      let from : place ≡ 0 + length (jobs_of lines) =
+      omega (arith, at_end, length-map lines (λ (l : LedgerLine). l.job)) in
       let more : take (i + 1) rows ≡ take i rows ++ row ∷ [] =
       take_more rows i row below ∙ ap (λ r. take i rows ++ r ∷ []) (sym at_row) in
       let all : AreLinesOf (take (i + 1) rows) (take (i + 1) entries) (take (i + 1) begun)
       (take (i + 1) ended) (lines ++ line ∷ []) = record {
-        jobs_are = subst (λ (rs : List Row). AreJobRows 0 rs (lines ++ line ∷ [])) (sym more)
-            (jobs_push 0 (take i rows) lines row line are.jobs_are
-            (subst (λ (at : ℕ). IsJobRow row at job) from is_job));
+        jobs_are = subst (λ (js : List Job). AreJobRows 0 (take (i + 1) rows) js)
+            (sym (map_push (λ (l : LedgerLine). l.job) lines line))
+            (subst (λ (rs : List Row). AreJobRows 0 rs (jobs_of lines ++ job ∷ [])) (sym more)
+            (jobs_push 0 (take i rows) (jobs_of lines) row job are.jobs_are
+            (subst (λ (at : ℕ). IsJobRow row at job) from is_job)));
         entries_are = part_more (λ (l : LedgerLine). l.entry) entries NotSent lines line i place
             (omega (arith, entry_each)) here refl are.entries_are;
         begun_are = part_more (λ (l : LedgerLine). l.times.begun) begun None lines line i place

@@ -1,5 +1,5 @@
 -- What the text of a mark means, and what it does to the marks.
-use Rattle.std.proofs.Common.{◌≡◌, inl, ℕ, ℤ, List, [], ◌∷◌, codes, true, None, Ok, refl, sym, ap}
+use Rattle.std.proofs.Common.{◌≡◌, ℕ, ℤ, List, [], ◌∷◌, codes, true, None, Ok, refl, sym, ap}
 use Rattle.std.proofs.Common.{subst, ◌∙◌, arith, true≢false}
 use Rattle.std.proofs.lemmas.Bool.{and_parts, not-true}
 use Rattle.std.proofs.lemmas.Cmp.{tied_itself}
@@ -27,12 +27,11 @@ use Rattle.sqlite.specs.State.{State, mode_of}
 use Rattle.sqlite.proofs.Callers.{IsPlain, command_of}
 use Rattle.sqlite_rules.specs.Lists.{Has}
 use Rattle.sqlite_rules.proofs.ListLemmas.{some_has, some_from}
-use Rattle.sqlite_rules.proofs.TableLemmas.{put_all_adds, put_all_keeps}
 use Rattle.sqlite_ledger.specs.Schema.{ledger_schema, begun_tree, outcome_tree}
 use Rattle.sqlite_ledger.specs.Schema.{begun_table}
 use Rattle.sqlite_ledger.specs.Marks.{IsBegun}
 use Rattle.sqlite_ledger.proofs.InsertLemmas.{AddsRow, edit_adds, went, same_value, cast_int}
-use Rattle.sqlite_ledger.proofs.InsertLemmas.{cast_null}
+use Rattle.sqlite_ledger.proofs.InsertLemmas.{cast_null, row_added, rows_kept}
 
 abbrev pub begun_text : List ℕ
 begun_text = codes "INSERT INTO begun (place, at) VALUES (?1, ?2)"
@@ -82,25 +81,29 @@ begun_does place at s text after tally has does =
     rw same (record { fresh = adds.fresh; rows = adds.rows; others = adds.others; schema = refl })
 
 -- A row with this key is there.
-has_begun : (db : Trees) (place : ℤ) (at : Value) → Has (db begun_tree) (mark_row place at) →
-    IsBegun db place
+pub has_begun : (db : Trees) (place : ℤ) (at : Value)
+    → Has (db begun_tree) (Int place ∷ Null ∷ at ∷ []) → IsBegun db place
 has_begun db place at has =
-    (some_from (has_rowid place) (db begun_tree) (mark_row place at) has (ap is_eq (tied_itself
-    value_cmp_total (Int place))))
+    some_from (has_rowid place) (db begun_tree) (Int place ∷ Null ∷ at ∷ []) has
+    (ap is_eq (tied_itself value_cmp_total (Int place)))
+
+-- What keeps the rows of the marks keeps the marks.
+pub begun_remains : (db after : Trees)
+    → ((row : Row) → Has (db begun_tree) row → Has (after begun_tree) row) → (other : ℤ)
+    → IsBegun db other → IsBegun after other
+begun_remains db after kept other was =
+    let row = some_has (has_rowid other) (db begun_tree) was in
+    some_from (has_rowid other) (after begun_tree) row.0 (kept row.0 row.1) row.2
 
 module _ (db after : Database) (place : ℤ) (at : Value) (adds : AddsRow begun_tree db after
     (mark_row place at)) where
   pub begun_after : IsBegun after.trees place
-  begun_after = has_begun after.trees place at (subst (λ rows. Has rows (mark_row place at)) (sym
-      adds.rows) (put_all_adds (mark_row place at ∷ []) (db.trees begun_tree) (mark_row place at)
-      adds.fresh (inl refl)))
+  begun_after = has_begun after.trees place (cast Integer at)
+      (row_added begun_tree db after (mark_row place at) adds)
 
   pub begun_kept : (other : ℤ) → IsBegun db.trees other → IsBegun after.trees other
-  begun_kept other was =
-      let row = some_has (has_rowid other) (db.trees begun_tree) was in
-      some_from (has_rowid other) (after.trees begun_tree) row.0 (subst (λ rows. Has rows row.0)
-      (sym adds.rows) (put_all_keeps (mark_row place at ∷ []) (db.trees begun_tree) row.0
-      adds.fresh row.1)) row.2
+  begun_kept = begun_remains db.trees after.trees
+      (rows_kept begun_tree db after (mark_row place at) adds)
 
   pub not_before : ¬ IsBegun db.trees place
   not_before was = true≢false (sym was ∙ not-true _ (and_parts _ _ adds.fresh).0)

@@ -1,5 +1,5 @@
 -- What the text of an outcome means, and what it does to the trees.
-use Rattle.std.proofs.Common.{◌≡◌, inl, ℕ, ℤ, List, [], ◌∷◌, codes, None, Ok, refl, sym, ap, subst}
+use Rattle.std.proofs.Common.{◌≡◌, ℕ, ℤ, List, [], ◌∷◌, codes, None, Ok, refl, sym, ap, subst}
 use Rattle.std.proofs.Common.{◌∙◌, arith}
 use Rattle.sqlite.specs.declared.types.Value.{Value}
 use Rattle.sqlite.specs.declared.types.Value.TheVariants.{Null, Int, Text as Words}
@@ -22,13 +22,12 @@ use Rattle.sqlite.specs.Effect.{Database}
 use Rattle.sqlite.specs.State.{State, mode_of}
 use Rattle.sqlite.proofs.Callers.{IsPlain, command_of}
 use Rattle.sqlite_rules.specs.Lists.{Has}
-use Rattle.sqlite_rules.proofs.TableLemmas.{put_all_adds, put_all_keeps}
 use Rattle.client_core.specs.declared.job.Outcome.{Outcome}
 use Rattle.client_core.specs.declared.job.Outcome.TheVariants.{Done, Refused, Rejected, Unknown}
 use Rattle.sqlite_ledger.specs.Schema.{ledger_schema, begun_tree, outcome_tree, outcome_table}
 use Rattle.sqlite_ledger.specs.Outcomes.{kind_of, number_of, outcome_row, IsRecorded}
 use Rattle.sqlite_ledger.proofs.InsertLemmas.{AddsRow, edit_adds, went, same_value, cast_int}
-use Rattle.sqlite_ledger.proofs.InsertLemmas.{cast_null}
+use Rattle.sqlite_ledger.proofs.InsertLemmas.{cast_null, row_added, rows_kept}
 
 abbrev pub outcome_text : List ℕ
 outcome_text = codes "INSERT INTO outcome (place, kind, number, at) VALUES (?1, ?2, ?3, ?4)"
@@ -93,23 +92,25 @@ outcome_does place outcome at s text after tally has does =
     Trees). let d : Database = record { schema = ledger_schema; trees = t } in d) trees in
     rw same (record { fresh = adds.fresh; rows = adds.rows; others = adds.others; schema = refl })
 
+-- What keeps the rows of the outcomes keeps the outcomes.
+pub recorded_remains : (db after : Trees)
+    → ((row : Row) → Has (db outcome_tree) row → Has (after outcome_tree) row) → (other : ℤ)
+    (held : Outcome) → IsRecorded db other held → IsRecorded after other held
+recorded_remains db after kept other held was =
+    (was.0, kept (outcome_row other held was.0) was.1)
+
 module _ (db after : Database) (row : Row) (adds : AddsRow outcome_tree db after row) where
   -- the marks are as they were
   pub marks_same : after.trees begun_tree ≡ db.trees begun_tree
   marks_same = adds.others.0 (λ (same : begun_tree ≡ outcome_tree). absurd (omega (arith, same)))
 
   pub recorded : Has (after.trees outcome_tree) row
-  recorded = subst (λ rows. Has rows row) (sym adds.rows) (put_all_adds (row ∷ []) (db.trees
-      outcome_tree) row adds.fresh (inl refl))
+  recorded = row_added outcome_tree db after row adds
 
   -- the outcomes that were recorded remain
   pub recorded_kept : (other : ℤ) (kept : Outcome) → IsRecorded db.trees other kept
       → IsRecorded after.trees other kept
-  recorded_kept other kept was = (
-    was.0,
-    subst (λ rows. Has rows (outcome_row other kept was.0)) (sym adds.rows) (put_all_keeps
-        (row ∷ []) (db.trees outcome_tree) (outcome_row other kept was.0) adds.fresh was.1),
-  )
+  recorded_kept = recorded_remains db.trees after.trees (rows_kept outcome_tree db after row adds)
 
 -- What leaves the table of the outcomes alone keeps the outcomes.
 pub recorded_same : (db after : Trees) → after outcome_tree ≡ db outcome_tree → (other : ℤ)

@@ -1,5 +1,5 @@
 -- What a query of a ledger does to a connection: nothing.
-use Rattle.std.proofs.Common.{◌≡◌, ◌≢◌, ◌∙◌, ℕ, List, [], codes, Result, Ok, Err, IfOk, OnOk, refl}
+use Rattle.std.proofs.Common.{◌≡◌, ◌≢◌, ◌∙◌, ℕ, List, [], Result, Ok, Err, IfOk, OnOk, refl}
 use Rattle.std.proofs.Common.{ap, subst, sym}
 use Rattle.sqlite.specs.Schema.{Schema}
 use Rattle.sqlite.specs.Order.{Row}
@@ -7,7 +7,9 @@ use Rattle.sqlite.specs.Listing.{understood}
 use Rattle.sqlite.specs.State.{State, IsUnchanged, Shown, ShowsRows}
 use Rattle.sqlite.proofs.Callers.{IsPlain}
 use Rattle.sqlite_tied.specs.Compute.{everything}
-use Rattle.sqlite_ledger.specs.Lines.{select_jobs, select_begun_times, select_outcome_times}
+use Rattle.sqlite_ledger.specs.Campaigns.{select_campaign}
+use Rattle.sqlite_ledger.specs.Jobs.{select_jobs}
+use Rattle.sqlite_ledger.specs.Lines.{select_begun_times, select_outcome_times}
 use Rattle.sqlite_ledger.specs.Readings.{select_begun, select_outcomes}
 use Rattle.sqlite_ledger.specs.Schema.{ledger_schema}
 
@@ -32,9 +34,6 @@ ok_map (Err e) P Q h f = tt
 pub has_tables : (schema : Schema) → schema ≡ ledger_schema → schema.tables ≢ []
 has_tables schema has empty =
     let none : ledger_schema.tables ≡ [] = ap (λ (s : Schema). s.tables) (sym has) ∙ empty in cc
-
-abbrev pub select_campaign : List ℕ
-select_campaign = codes "SELECT version, jobs FROM campaign"
 
 pub jobs_plain : IsPlain (understood ledger_schema select_jobs)
 unfolding understood everything

@@ -2,19 +2,23 @@
 --     IsControlState    a number that is a state of the control
 --     IsAnswerIn        the answer of a row that was read
 --     select_answers    the query of all answers
+--     select_last       the query of the greatest number
 --     AreShown          the answers that a query of all answers shows
+--     IsLast            the number in the row of the greatest number
+--     ShowsLast         the number that the query of the greatest number shows
 --     answer_row        the row of an answer
 --     IsRecorded        the trees have the answer
 --     IsSafe            all trees that a crash may leave have it
 --     answer_rows       the rows of the answers that a connection sees
 --     AddsAnswers       rows and the same with answers put in, and no others
 use Rattle.std.specs.Prelude.{◌≡◌, ◌<◌, ◌≤◌, ◌^◌, ℕ, ℤ, pos, false, List, [], ◌∷◌, codes}
-use Rattle.std.specs.Prelude.{Option, Some, None}
+use Rattle.std.specs.Prelude.{Option, Some, None, unwrap_or}
 use Rattle.std.specs.List.{AllZip}
 use Rattle.sqlite.specs.declared.types.Value.TheVariants.{Null, Int, Text as Words}
 use Rattle.sqlite.specs.Edit.{is_taken}
 use Rattle.sqlite.specs.Order.{Row, column}
 use Rattle.sqlite.specs.State.{State, Shown}
+use Rattle.sqlite.specs.Values.{or_null}
 use Rattle.sqlite.specs.Tree.{Trees, put_row}
 use Rattle.sqlite_rules.specs.Lists.{Has}
 use Rattle.ledger_reports.specs.declared.answer.StateAnswer.{StateAnswer}
@@ -39,6 +43,23 @@ pub record IsAnswerIn (row : Row) (answer : StateAnswer) : Type 0 where
 -- the query of all answers, the one with the first number first
 abbrev pub select_answers : List ℕ
 select_answers = codes "SELECT name, address, state, asked_at FROM answer ORDER BY number"
+
+-- the query of the greatest number, which is NULL without an answer
+abbrev pub select_last : List ℕ
+select_last = codes "SELECT max(number) FROM answer"
+
+-- whether this is the number in the row of the greatest number, or 0 if it is NULL or there is no
+-- row
+abbrev pub IsLast : List Row → ℕ → Type 0
+IsLast [] last = last ≡ 0
+IsLast (row ∷ rows) last = (number : Option ℕ) × (column row 0 ≡ or_null (λ n. Int (pos n)) number)
+    × (last ≡ unwrap_or number 0)
+
+-- whether this is the number that the query of the greatest number shows
+pub record ShowsLast (old new : State) (last : ℕ) : Type 0 where
+  pub rows : List Row
+  pub shown : Shown select_last [] old new rows
+  pub is_last : IsLast rows last
 
 -- whether these are the answers of the rows that the query of all answers shows, one for each row,
 -- in their order

@@ -5,10 +5,13 @@ pub mod AnswersSchema
 pub mod AtRest
 pub mod Campaigns
 pub mod EntryCode
+pub mod Groups
+pub mod Jobs
 pub mod Lines
 pub mod Marks
 pub mod OpenFaults
 pub mod Outcomes
 pub mod Readings
 pub mod Schema
+pub mod Streams
 pub mod Taken

@@ -6,11 +6,10 @@
 --     Enters             what rows make of a list, each at its place
 --     EntersShown        what the rows that a query shows make of it
 --     ShowsEntries       the entries that the marks and the outcomes make of those of unsent jobs
---     HasEntries         these, after queries that changed nothing
 use Rattle.std.specs.Prelude.{◌≡◌, ◌<◌, ℕ, pos, List, [], ◌∷◌, codes, length, replicate, slice_set}
 use Rattle.sqlite.specs.declared.types.Value.TheVariants.{Int, Text as Words}
 use Rattle.sqlite.specs.Order.{Row, column}
-use Rattle.sqlite.specs.State.{State, IsUnchanged, Shown}
+use Rattle.sqlite.specs.State.{State, Shown}
 use Rattle.client_core.specs.declared.job.Outcome.{Outcome}
 use Rattle.campaign_ledger.specs.declared.entry.LedgerEntry.{LedgerEntry}
 use Rattle.campaign_ledger.specs.declared.entry.LedgerEntry.TheVariants.{NotSent, MaybeSent, Came}
@@ -58,11 +57,3 @@ pub record ShowsEntries {H : Type 0} (state_of : H → State) (before after : H)
       (replicate jobs NotSent) marked
   pub outcomes : EntersShown select_outcomes IsOutcomeRow (state_of between) (state_of after) marked
       entries
-
--- Whether these are the entries of this number of jobs. No query has changed the database before
--- the marks and the outcomes were shown.
-pub record HasEntries {H : Type 0} (state_of : H → State) (before after : H) (jobs : ℕ)
-    (entries : List LedgerEntry) : Type 0 where
-  pub asked : H
-  pub unchanged : IsUnchanged (state_of before) (state_of asked)
-  pub shown : ShowsEntries state_of asked after jobs entries

@@ -2,6 +2,7 @@
 --     strict_column     a column of a STRICT table, without a default
 --     keyed_table       a table whose first column is its INTEGER PRIMARY KEY, without other rules
 --     ledger_schema     the four tables of a ledger, and nothing else
+--     empty_schema      no table, index or view
 use Rattle.std.specs.Prelude.{ℕ, Bool, true, false, List, [], ◌∷◌, Some, codes}
 use Rattle.sqlite.specs.Collation.TheVariants.{Binary}
 use Rattle.sqlite.specs.declared.types.Value.TheVariants.{Null}
@@ -76,3 +77,7 @@ ledger_schema = record {
   indexes = [];
   views = [];
 }
+
+-- the schema of an empty database
+abbrev pub empty_schema : Schema
+empty_schema = record { tables = []; indexes = []; views = [] }

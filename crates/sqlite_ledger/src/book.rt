@@ -6,12 +6,13 @@ ghost use Rattle.sqlite_ledger.specs.Marks.{IsMarked, LeavesEntries, left_marked
 ghost use Rattle.sqlite_ledger.specs.Outcomes.{IsSafe};
 ghost use Rattle.sqlite_ledger.specs.Schema.{ledger_schema};
 
-use crate::clock::WallClock;
+use crate::clock::{SecondClock, WallClock};
 use crate::fault::{fault_of, is_taken};
+use crate::grouping::insert_group;
 use crate::marking::insert_begun;
 use crate::outcome::insert_outcome;
 use crate::schema::is_ledger_schema;
-use campaign_ledger::{Book, LedgerFault};
+use campaign_ledger::{Book, LedgerFault, PlaceOutcome};
 use client_core::Outcome;
 use sqlite::{Alter, Connection};
 use std::marker::Model;
@@ -88,7 +89,8 @@ impl<S: Alter + Drop> Book for SqliteBook<S> {
             return Err(LedgerFault::Failed);
         }
         self.has_failed = true;
-        match insert_begun(&mut self.conn, place, self.clock.seconds()) {
+        let second = i64::from(self.clock.seconds());
+        match insert_begun(&mut self.conn, place, second) {
             Ok(_) => {
                 self.has_failed = false;
                 Ok(true)
@@ -106,8 +108,23 @@ impl<S: Alter + Drop> Book for SqliteBook<S> {
             return Err(LedgerFault::Failed);
         }
         self.has_failed = true;
-        match insert_outcome(&mut self.conn, place, outcome, self.clock.seconds()) {
+        let second = i64::from(self.clock.seconds());
+        match insert_outcome(&mut self.conn, place, outcome, second) {
             Ok(_) => {
+                self.has_failed = false;
+                Ok(())
+            }
+            Err(error) => Err(fault_of(error)),
+        }
+    }
+
+    fn commit(&mut self, marks: &[u32], outcomes: &[PlaceOutcome]) -> Result<(), LedgerFault> {
+        if self.has_failed {
+            return Err(LedgerFault::Failed);
+        }
+        self.has_failed = true;
+        match insert_group(&mut self.conn, &mut self.clock, marks, outcomes) {
+            Ok(()) => {
                 self.has_failed = false;
                 Ok(())
             }

@@ -1,6 +1,6 @@
 //! What a book makes of SQLite's errors.
 ghost use Rattle.std.specs.Prelude.{◌≡◌};
-ghost use Rattle.sqlite_ledger.specs.Taken.{is_taken};
+ghost use Rattle.sqlite_ledger.specs.Taken.{fault_of, is_taken};
 
 use campaign_ledger::LedgerFault;
 use sqlite::{Constraint, Error, ErrorCode};
@@ -16,7 +16,9 @@ pub(crate) fn is_taken(error: Error) -> bool
 }
 
 // Returns the fault of a book for an error that ends it.
-pub(crate) fn fault_of(error: Error) -> LedgerFault {
+pub(crate) fn fault_of(error: Error) -> LedgerFault
+    ensures { result ≡ fault_of error }
+{
     match error {
         Error::SqliteFailure(ErrorCode::OutOfMemory) => LedgerFault::Memory,
         _ => LedgerFault::Failed,

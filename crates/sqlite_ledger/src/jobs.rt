@@ -1,6 +1,6 @@
 //! The jobs of a campaign, as a ledger has them.
-ghost use Rattle.std.specs.Prelude.{IfOk};
-ghost use Rattle.sqlite_ledger.specs.Lines.{IsJobRow};
+ghost use Rattle.std.specs.Prelude.{IfOk, IsTrue};
+ghost use Rattle.sqlite_ledger.specs.Jobs.{IsJobRow};
 
 use crate::open_fault::LedgerOpenFault;
 use client_core::{Job, Verb};
@@ -30,32 +30,19 @@ pub(crate) fn insert_job<S: Alter>(
 }
 
 // Returns whether a row of the table `job` is that of the job at this place.
-fn is_row_of(row: &Row, place: u32, job: &Job) -> Result<bool, Error> {
-    let at: i64 = row.get(0)?;
+pub(crate) fn is_row_of(row: &Row, place: usize, job: &Job) -> Result<bool, Error>
+    ensures { IfOk result (λ is. IsTrue is → IsJobRow row.now place job.now) }
+{
+    let at: u64 = row.get(0)?;
     let name: String = row.get(1)?;
     let address: String = row.get(2)?;
     let verb: String = row.get(3)?;
     Ok(
-        at == i64::from(place)
+        at == place as u64
             && name.as_bytes() == job.id.as_slice()
             && address.as_bytes() == job.address.as_slice()
             && verb.as_bytes() == job.verb.word(),
     )
-}
-
-// Returns whether the rows of the table `job`, in the order of their places, are these jobs.
-pub(crate) fn are_rows_of(rows: &[Row], jobs: &[Job]) -> Result<bool, Error> {
-    if rows.len() != jobs.len() {
-        return Ok(false);
-    }
-    let mut place = 0u32;
-    for (row, job) in rows.iter().zip(jobs.iter()) {
-        if !is_row_of(row, place, job)? {
-            return Ok(false);
-        }
-        place = place.saturating_add(1);
-    }
-    Ok(true)
 }
 
 // Returns the job of a row of the table `job`. Fails with `NotALedger` if the row is not that of

@@ -12,7 +12,7 @@ use crate::at_rest::check_at_rest;
 use sqlite::{Alter, Connection, Error, params};
 
 // Writes the mark of a place and the second of the mark. It fails if the mark is there.
-const INSERT_BEGUN: &str = "INSERT INTO begun (place, at) VALUES (?1, ?2)";
+pub(crate) const INSERT_BEGUN: &str = "INSERT INTO begun (place, at) VALUES (?1, ?2)";
 
 // Writes the mark of a place, in a transaction of its own: its key is the right to send the command
 // of the place. Returns the number of rows written. Fails if the mark is there.

@@ -5,14 +5,15 @@ ghost use Rattle.sqlite.specs.State.{HasCleanDisk, IsUnchanged};
 ghost use Rattle.sqlite.specs.Held.{state};
 ghost use Rattle.campaign_ledger.specs.declared.entry.LedgerEntry.TheVariants.{NotSent};
 ghost use Rattle.sqlite_ledger.specs.Marks.{LeavesCommit};
-ghost use Rattle.sqlite_ledger.specs.Readings.{HasEntries};
+ghost use Rattle.sqlite_ledger.specs.Lines.{HasLedger};
 ghost use Rattle.sqlite_ledger.specs.Schema.{ledger_schema};
 ghost use Rattle.sqlite_ledger.specs.declared.open_fault.LedgerOpenFault.TheVariants.{NotALedger};
 
 use crate::book::SqliteBook;
+use crate::comparison::has_jobs;
 use crate::creation::create_ledger;
 use crate::open_fault::LedgerOpenFault;
-use crate::reading::{has_jobs, new_entries, read_entries};
+use crate::reading::{new_entries, read_entries};
 use crate::schema::{is_empty, is_ledger_schema};
 use campaign_ledger::{Ledger, LedgerEntry};
 use client_core::Job;
@@ -46,12 +47,13 @@ fn read_ledger<S: Alter>(
     jobs: &[Job],
     is_new: bool,
 ) -> Result<Vec<LedgerEntry>, LedgerOpenFault>
+    requires { conn.old.schema ≡ ledger_schema }
     ensures clean { HasCleanDisk (state S.Store conn.new) → HasCleanDisk (state S.Store conn.old) }
-    ensures unchanged { HasCleanDisk (state S.Store conn.new) → conn.old.schema ≡ ledger_schema
+    ensures unchanged { HasCleanDisk (state S.Store conn.new)
         → OnOk result (IsUnchanged (state S.Store conn.old) (state S.Store conn.new)) }
-    ensures entries { HasCleanDisk (state S.Store conn.new) → conn.old.schema ≡ ledger_schema
-        → is_new ≡ false → IfOk result (λ entries. HasEntries (λ c. state S.Store c) conn.old
-        conn.new (length jobs.now) entries.items) }
+    ensures ledger { HasCleanDisk (state S.Store conn.new) → is_new ≡ false
+        → IfOk result (λ entries. HasLedger (λ c. state S.Store c) conn.old conn.new jobs.now
+        entries.items) }
     ensures new { IsTrue is_new
         → IfOk result (λ entries. entries.items ≡ replicate (length jobs.now) NotSent) }
     ensures len { IfOk result (λ entries. length entries.items ≡ length jobs.now) }
@@ -67,8 +69,8 @@ fn read_ledger<S: Alter>(
 
 /// Opens the ledger of a campaign with these jobs over a connection. An empty database gets the
 /// tables and the jobs, in one transaction, and each entry is `NotSent`. A database with other
-/// tables is unchanged. The entries of an existing ledger are those of the marks and the outcomes
-/// that the queries of the database show.
+/// tables is unchanged. The queries of the database show that an existing ledger has these jobs,
+/// and the marks and the outcomes that its entries are made of.
 ///
 /// Errors, each with the connection: `NotALedger` for a database with other tables, of another
 /// version, or with a mark or an outcome that is none; `OtherList` for the ledger of another list
@@ -80,9 +82,9 @@ pub fn open_book<S: Alter + Drop>(
 ) -> Result<Ledger<SqliteBook<S>>, (LedgerOpenFault, Connection<S>)>
     ensures schema { IfOk result (λ ledger. ledger.book.schema ≡ ledger_schema) }
     ensures len { IfOk result (λ ledger. length ledger.entries ≡ length jobs.now) }
-    ensures entries { conn.schema ≡ ledger_schema → IfOk result (λ ledger.
-        HasCleanDisk (state S.Store ledger.book) → HasEntries (λ c. state S.Store c) conn
-        ledger.book (length jobs.now) ledger.entries) }
+    ensures ledger { conn.schema ≡ ledger_schema → IfOk result (λ ledger.
+        HasCleanDisk (state S.Store ledger.book) → HasLedger (λ c. state S.Store c) conn
+        ledger.book jobs.now ledger.entries) }
     ensures new { conn.schema.tables ≡ []
         → IfOk result (λ ledger. ledger.entries ≡ replicate (length jobs.now) NotSent) }
     ensures unfailed { IfOk result (λ ledger. ledger.has_failed ≡ false) }

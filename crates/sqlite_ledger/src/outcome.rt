@@ -17,7 +17,7 @@ use client_core::Outcome;
 use sqlite::{Alter, Connection, Error, Row, params};
 
 // Writes the outcome of a place: its kind, its number or NULL, and the second.
-const INSERT_OUTCOME: &str =
+pub(crate) const INSERT_OUTCOME: &str =
     "INSERT INTO outcome (place, kind, number, at) VALUES (?1, ?2, ?3, ?4)";
 
 // Returns the word for the outcome's kind.

@@ -6,26 +6,27 @@ ghost use Rattle.sqlite.specs.Given.{IsPlain};
 ghost use Rattle.sqlite.specs.Listing.{understood};
 ghost use Rattle.sqlite.specs.Held.{state};
 ghost use Rattle.campaign_ledger.specs.declared.entry.LedgerEntry.TheVariants.{NotSent};
+ghost use Rattle.sqlite_ledger.specs.Campaigns.{ShowsCampaign};
+ghost use Rattle.sqlite_ledger.specs.Jobs.{select_jobs};
 ghost use Rattle.sqlite_ledger.specs.Lines.{AreLinesOf, IsTimeRow, ShowsLines};
-ghost use Rattle.sqlite_ledger.specs.Lines.{select_begun_times, select_jobs, select_outcome_times};
+ghost use Rattle.sqlite_ledger.specs.Lines.{select_begun_times, select_outcome_times};
 ghost use Rattle.sqlite_ledger.specs.Readings.{Enters, EntersShown, IsMarkRow, IsOutcomeRow};
 ghost use Rattle.sqlite_ledger.specs.Readings.{ShowsEntries, select_begun, select_outcomes};
 ghost use Rattle.sqlite_ledger.specs.Schema.{ledger_schema};
 ghost use Rattle.sqlite_ledger.specs.declared.open_fault.LedgerOpenFault.TheVariants.{NotALedger};
 
 use crate::campaign_row::check_campaign_rows;
-use crate::jobs::{are_rows_of, read_job};
+use crate::jobs::read_job;
 use crate::open_fault::LedgerOpenFault;
 use crate::outcome::read_outcome;
 use crate::schema::is_ledger_schema;
 use campaign_ledger::LedgerEntry;
-use client_core::Job;
 use ledger_reports::{LedgerLine, LedgerTimes};
 use sqlite::{Alter, Connection, Error, Row};
 use std::alloc::{AllocError, Global};
 
 // The jobs in the order of their places.
-const SELECT_JOBS: &str = "SELECT place, name, address, verb FROM job ORDER BY place";
+pub(crate) const SELECT_JOBS: &str = "SELECT place, name, address, verb FROM job ORDER BY place";
 
 // The version of the tables and the number of jobs.
 const SELECT_CAMPAIGN: &str = "SELECT version, jobs FROM campaign";
@@ -67,42 +68,18 @@ fn select_jobs<S: Alter>(conn: &mut Connection<S>) -> Result<Vec<Row>, Error>
 
 // Fails with `NotALedger` unless the table `campaign` has one row, with the version of these tables
 // and this number of jobs.
-fn check_campaign<S: Alter>(conn: &mut Connection<S>, jobs: usize) -> Result<(), LedgerOpenFault>
+pub(crate) fn check_campaign<S: Alter>(
+    conn: &mut Connection<S>,
+    jobs: usize,
+) -> Result<(), LedgerOpenFault>
+    ensures campaign { HasCleanDisk (state S.Store conn.new) → OnOk result
+        (ShowsCampaign (state S.Store conn.old) (state S.Store conn.new) jobs) }
     ensures clean { HasCleanDisk (state S.Store conn.new) → HasCleanDisk (state S.Store conn.old) }
     ensures unchanged { HasCleanDisk (state S.Store conn.new) → conn.old.schema ≡ ledger_schema
         → OnOk result (IsUnchanged (state S.Store conn.old) (state S.Store conn.new)) }
 {
     let rows = select(conn, SELECT_CAMPAIGN)?;
     check_campaign_rows(&rows, jobs)
-}
-
-// Returns the rows of the table `job`, in the order of the places. Fails with `NotALedger` if the
-// table `campaign` says another number of them, or another version of the tables.
-fn read_jobs<S: Alter>(conn: &mut Connection<S>) -> Result<Vec<Row>, LedgerOpenFault>
-    ensures clean { HasCleanDisk (state S.Store conn.new) → HasCleanDisk (state S.Store conn.old) }
-    ensures unchanged { HasCleanDisk (state S.Store conn.new) → conn.old.schema ≡ ledger_schema
-        → OnOk result (IsUnchanged (state S.Store conn.old) (state S.Store conn.new)) }
-{
-    let rows = select_jobs(conn)?;
-    check_campaign(conn, rows.len())?;
-    Ok(rows)
-}
-
-// Returns whether the file has these jobs. Fails with `NotALedger` if its tables have another
-// version, or another number of jobs than they say.
-pub(crate) fn has_jobs<S: Alter>(
-    conn: &mut Connection<S>,
-    jobs: &[Job],
-) -> Result<bool, LedgerOpenFault>
-    ensures clean { HasCleanDisk (state S.Store conn.new) → HasCleanDisk (state S.Store conn.old) }
-    ensures unchanged { HasCleanDisk (state S.Store conn.new) → conn.old.schema ≡ ledger_schema
-        → OnOk result (IsUnchanged (state S.Store conn.old) (state S.Store conn.new)) }
-{
-    let rows = read_jobs(conn)?;
-    match are_rows_of(&rows, jobs) {
-        Ok(are) => Ok(are),
-        Err(error) => Err(LedgerOpenFault::from(error)),
-    }
 }
 
 // Sets the entries of the marked places. Fails with `NotALedger` if one has no job.

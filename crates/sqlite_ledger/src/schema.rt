@@ -3,15 +3,15 @@ ghost use Rattle.std.specs.Prelude.{◌≡◌, ◌↔◌, [], ◌∷◌, true, f
 ghost use Rattle.sqlite.specs.Kind.TheVariants.{Integer, Text as Words};
 ghost use Rattle.sqlite_ledger.specs.Schema.{strict_column, keyed_table, ledger_schema};
 ghost use Rattle.sqlite_ledger.specs.Schema.{begun_table, outcome_table, job_table};
-ghost use Rattle.sqlite_ledger.specs.Schema.{campaign_table};
+ghost use Rattle.sqlite_ledger.specs.Schema.{campaign_table, empty_schema};
 
 use sqlite_schema::schema::{Column, Kind, Schema, Stamps, Table};
 use sqlite_value::keys::Collation;
 use sqlite_value::value::Value;
 
-// Returns whether the database has no tables yet.
+// Returns whether the database has no tables, indexes or views yet.
 pub(crate) fn is_empty(schema: &Schema) -> bool
-    ensures { IsTrue result → schema.now.tables ≡ [] }
+    ensures { IsTrue result ↔ (schema.now ≡ empty_schema) }
 {
     schema.tables.is_empty() && schema.indexes.is_empty() && schema.views.is_empty()
 }

@@ -17,6 +17,6 @@ returns-in-Ok-open_on_disk-clause-found g c clean =
         unchanged = λ ledger. c.in-Ok-open_on_disk.ensures.unchanged ledger clean;
         settled = c.in-Ok-open_on_disk.ensures.settled;
       };
-      has_entries = λ ledger. c.in-Ok-open_on_disk.ensures.entries ledger clean;
+      has_ledger = λ ledger. c.in-Ok-open_on_disk.ensures.ledger ledger clean;
       new = c.in-Ok-open_on_disk.ensures.new;
     }

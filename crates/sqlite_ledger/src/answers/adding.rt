@@ -1,10 +1,11 @@
 //! `add_answers`: appends answers.
-ghost use Rattle.std.specs.Prelude.{◌≡◌, [], ◌∷◌, OnOk};
+ghost use Rattle.std.specs.Prelude.{◌≡◌, [], ◌∷◌, IfOk, OnOk};
 ghost use Rattle.std.specs.List.{AllByRecursion};
-ghost use Rattle.sqlite.specs.State.{HasCleanDisk, IsUnchanged};
+ghost use Rattle.sqlite.specs.State.{HasCleanDisk, IsUnchanged, Shown};
 ghost use Rattle.sqlite.specs.Held.{state};
 ghost use Rattle.ledger_reports.specs.declared.answer.StateAnswer.{StateAnswer};
-ghost use Rattle.sqlite_ledger.specs.Answers.{AddsAnswers, IsSafe, answer_rows, second_of};
+ghost use Rattle.sqlite_ledger.specs.Answers.{AddsAnswers, IsLast, IsSafe, ShowsLast, answer_rows};
+ghost use Rattle.sqlite_ledger.specs.Answers.{second_of, select_last};
 ghost use Rattle.sqlite_ledger.specs.AnswersSchema.{answers_schema};
 
 use crate::at_rest::check_at_rest;
@@ -64,6 +65,8 @@ fn insert_answer<S: Alter>(
 
 // Returns the row with the greatest number of an answer, which is NULL without one.
 fn select_last<S: Alter>(conn: &mut Connection<S>) -> Result<Vec<Row>, Error>
+    ensures shown { HasCleanDisk (state S.Store conn.new) → IfOk result (λ rows.
+        Shown select_last [] (state S.Store conn.old) (state S.Store conn.new) rows.items) }
     ensures clean { HasCleanDisk (state S.Store conn.new) → HasCleanDisk (state S.Store conn.old) }
     ensures unchanged { HasCleanDisk (state S.Store conn.new) → conn.old.schema ≡ answers_schema
         → OnOk result (IsUnchanged (state S.Store conn.old) (state S.Store conn.new)) }
@@ -72,7 +75,9 @@ fn select_last<S: Alter>(conn: &mut Connection<S>) -> Result<Vec<Row>, Error>
 }
 
 // Returns the number in the first of these rows, or 0 without one.
-fn number_in(rows: &[Row]) -> Result<u32, Error> {
+fn number_in(rows: &[Row]) -> Result<u32, Error>
+    ensures { IfOk result (IsLast rows.now) }
+{
     let Some(row) = rows.first() else {
         return Ok(0);
     };
@@ -80,10 +85,13 @@ fn number_in(rows: &[Row]) -> Result<u32, Error> {
     Ok(number.unwrap_or(0))
 }
 
-/// Returns the number of the last answer, or 0 without one, and changes nothing.
+/// Returns the number of the last answer, as the query of the greatest number shows it, or 0
+/// without one, and changes nothing.
 ///
 /// Errors: `File` and `Memory`.
 pub fn last_number<S: Alter>(conn: &mut Connection<S>) -> Result<u32, LedgerOpenFault>
+    ensures last { HasCleanDisk (state S.Store conn.new) → IfOk result (λ last.
+        ShowsLast (state S.Store conn.old) (state S.Store conn.new) last) }
     ensures clean { HasCleanDisk (state S.Store conn.new) → HasCleanDisk (state S.Store conn.old) }
     ensures unchanged { HasCleanDisk (state S.Store conn.new) → conn.old.schema ≡ answers_schema
         → OnOk result (IsUnchanged (state S.Store conn.old) (state S.Store conn.new)) }

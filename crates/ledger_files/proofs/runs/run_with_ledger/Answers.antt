@@ -1,4 +1,4 @@
-use Rattle.std.proofs.Common.{subst, List, length}
+use Rattle.std.proofs.Common.{subst, List}
 use Rattle.sqlite.specs.WalFiles.{image_at}
 use Rattle.client_core.specs.declared.job.Job.{Job}
 use Rattle.ledger_files.specs.Opened.{IsLedgerFrom}
@@ -13,7 +13,7 @@ returns-in-Ok-run_on_disk g c =
       schema_is = c.in-Ok.ensures.schema;
       end_is = c.close.ensures;
       opened = λ clean. subst (λ (jobs : List Job).
-          IsLedgerFrom (image_at g.S.Start) start.book (length jobs) start.entries)
+          IsLedgerFrom (image_at g.S.Start) start.book jobs start.entries)
           c.as_slice.ensures.jobs (c.in-Ok.ensures.found clean);
       run = c.in-Ok-run_on_disk.ensures;
     }

@@ -1,10 +1,9 @@
-use Rattle.std.proofs.Common.{◌≡◌, ◌∙◌, ℕ, None, length, replicate, ap, subst, arith}
-use Rattle.sqlite.specs.Effect.{Database}
+use Rattle.std.proofs.Common.{◌≡◌, ℕ, None, length, replicate, subst, arith}
 use Rattle.sqlite.specs.Held.{Held, state}
+use Rattle.sqlite_ledger.specs.Campaigns.{ShowsCampaign}
 use Rattle.sqlite_ledger.specs.Lines.{AreLinesOf, IsTimeRow, ShowsLines, select_begun_times}
 use Rattle.sqlite_ledger.specs.Lines.{select_outcome_times}
 use Rattle.sqlite_ledger.specs.Readings.{EntersShown, ShowsEntries}
-use Rattle.sqlite_ledger.specs.Schema.{ledger_schema}
 use Rattle.sqlite_ledger.proofs.ReadLemmas.{ok_map}
 use Rattle.sqlite_ledger.proofs.reading.read_known.Goals as goal
 
@@ -20,13 +19,11 @@ returns-clause-lines g c clean has =
     let entered_clean = c.read_begun_times.ensures.clean timed_clean in
     let checked_clean = c.read_entries.ensures.clean entered_clean in
     let listed_clean = c.check_campaign.ensures.clean checked_clean in
-    let same = c.in_ok-rows.ensures.unchanged listed_clean has in
-    let still : listed.schema ≡ ledger_schema =
-    ap (λ (d : Database). d.schema) same.0.now_is ∙ has in
     let rows = c.in_ok-rows.rows.items in
     let entries = c.in_ok-entries.entries.items in
     let begun = c.in_ok-begun.begun.items in
     let ended = c.in_ok-ended.ended.items in
+    let jobs_len : c.len.result ≡ length rows = omega arith in
     let entries_len : c.len-2.result ≡ length rows = omega arith in
     let begun_len : c.len-3.result ≡ length rows = omega arith in
     let ended_len : c.len-4.result ≡ length rows = omega arith in
@@ -40,12 +37,11 @@ returns-clause-lines g c clean has =
       jobs_shown = c.in_ok-rows.ensures.shown listed_clean;
       entered = entered;
       entries = entries;
-      has_entries = record {
-        asked = checked;
-        unchanged = c.in_ok-check_campaign.ensures.unchanged checked_clean still;
-        shown = subst (λ (count : ℕ). ShowsEntries of checked entered count entries) entries_len
-            (c.in_ok-entries.ensures.entries entered_clean);
-      };
+      checked = checked;
+      campaign = subst (λ (count : ℕ). ShowsCampaign (of listed) (of checked) count) jobs_len
+          (c.in_ok-check_campaign.ensures.campaign checked_clean);
+      entries_shown = subst (λ (count : ℕ). ShowsEntries of checked entered count entries)
+          entries_len (c.in_ok-entries.ensures.entries entered_clean);
       timed = timed;
       begun = begun;
       begun_shown = subst (λ (count : ℕ). EntersShown select_begun_times IsTimeRow (of entered)

@@ -2,7 +2,8 @@ use Rattle.std.proofs.Common.{[]}
 use Rattle.sqlite.specs.Held.{state}
 use Rattle.sqlite.specs.State.{Shown}
 use Rattle.sqlite_ledger.proofs.ReadLemmas.{ok_then, shown_unchanged}
-use Rattle.sqlite_ledger.proofs.AnswerReads.{last_plain, select_last}
+use Rattle.sqlite_ledger.specs.Answers.{select_last}
+use Rattle.sqlite_ledger.proofs.AnswerReads.{last_plain}
 use Rattle.sqlite_ledger.proofs.answers.adding.select_last.Goals as goal
 
 pub returns-clause-unchanged : goal.returns-clause-unchanged
