@@ -1,6 +1,7 @@
 //! The journal of a server: its file, its lock, and the recorder that resumes where it ends.
-ghost use Rattle.std.specs.Prelude.{◌≡◌, [], false, true, IfOk, IfErr, IsErrOf, OnOk};
+ghost use Rattle.std.specs.Prelude.{◌≡◌, ◌≢◌, [], false, true, IfOk, IfErr, IsErrOf, OnOk};
 ghost use Rattle.std.specs.Prelude.{length, string_bytes};
+ghost use Rattle.std.specs.IoError.{error_kind};
 ghost use Rattle.durable_lines.specs.Lines.{IsReady};
 ghost use Rattle.journal_files.specs.Journals.{Continues, IsBegun};
 ghost use Rattle.journal_files.specs.RenewedFile.{terms_of};
@@ -22,9 +23,9 @@ use journal_files::{
 use program::Fault;
 use relay_recorder::{MAX_CAPACITY, Recorder};
 use std::alloc::{AllocGlobal, Global};
-use std::fs;
 use std::fs::{File, Files};
 use std::io::ErrorKind;
+use std::{fs, io};
 use trace_player::MAX_BYTES;
 
 /// How a journal is kept.
@@ -194,12 +195,12 @@ fn is_link<R: Files<File = File>>(rt: &R, path: &str) -> bool {
     }
 }
 
-// Opens the journal of a path in its place, or begins it with this recorder if there is no file.
-// Returns the recorder of the meter.
-fn open_file<R: AllocGlobal + Files<File = File> + Drop, E: Eprint>(
+// Resumes the journal of a file in its place. Returns the recorder of the meter.
+fn open_found<R: AllocGlobal + Files<File = File> + Drop, E: Eprint>(
     rt: &R,
     errors: &E,
     path: &str,
+    file: File,
     place: &mut OsStoredPlace<R>,
     recorder: Recorder,
     options: JournalOptions,
@@ -207,48 +208,66 @@ fn open_file<R: AllocGlobal + Files<File = File> + Drop, E: Eprint>(
     requires { length recorder.events ≡ 0 }
     ensures { IfOk result (λ last. length last.events ≡ 0) }
 {
-    match open_own(rt, path, FileAccess::Write) {
-        Ok(file) => {
-            let mut file = match StoredFile::try_lock(file, MAX_BYTES) {
-                Ok(file) => file,
-                Err(fault) => {
-                    let _ = eprintln!(errors; "{path}: {fault}");
-                    drop(recorder);
-                    return Err(StartFault::File);
-                }
-            };
-            let end = end_of(rt.alloc(), &mut file);
-            place.set_file(file);
-            let opened = open_in_place(rt.alloc(), errors, path, place, recorder, options, true);
-            if opened.is_ok() {
-                keep_cut(rt, errors, path, end.as_slice(), options.mode);
-            }
-            drop(end);
-            opened
+    let mut file = match StoredFile::try_lock(file, MAX_BYTES) {
+        Ok(file) => file,
+        Err(fault) => {
+            let _ = eprintln!(errors; "{path}: {fault}");
+            drop(recorder);
+            return Err(StartFault::File);
         }
-        Err(error) if error.kind() == ErrorKind::NotFound && !is_link(rt, path) => open_in_place(
-            rt.alloc(),
-            errors,
-            path,
-            place,
-            recorder,
-            options,
-            false,
-        ),
+    };
+    let end = end_of(rt.alloc(), &mut file);
+    place.set_file(file);
+    let opened = open_in_place(rt.alloc(), errors, path, place, recorder, options, true);
+    if opened.is_ok() {
+        keep_cut(rt, errors, path, end.as_slice(), options.mode);
+    }
+    drop(end);
+    opened
+}
+
+// Reports why the file of a journal could not be opened.
+fn report_unopened<E: Eprint>(errors: &E, path: &str, error: &io::Error) {
+    let _ = match error.kind() {
+        ErrorKind::NotFound | ErrorKind::InvalidInput => {
+            eprintln!(errors; "{path}: a symbolic link is not followed")
+        }
+        _ => eprintln!(errors; "{path}: can't be opened for reading and writing: {error}"),
+    };
+}
+
+// Opens the journal of a path in its place, by the result of opening its file, or begins it with
+// this recorder if there is none: one that is there and can't be opened is never begun anew.
+// Returns the recorder of the meter.
+fn open_or_begin<R: AllocGlobal + Files<File = File> + Drop, E: Eprint>(
+    rt: &R,
+    errors: &E,
+    path: &str,
+    opened: io::Result<File>,
+    place: &mut OsStoredPlace<R>,
+    recorder: Recorder,
+    options: JournalOptions,
+) -> Result<Recorder, StartFault>
+    requires { length recorder.events ≡ 0 }
+    ensures unused { IfOk result (λ last. length last.events ≡ 0) }
+    ensures unopened { IfErr opened (λ error. error_kind error ≢ ErrorKind.NotFound
+        → IsErrOf result StartFault.File) }
+{
+    match opened {
+        Ok(file) => open_found(rt, errors, path, file, place, recorder, options),
+        Err(error) if error.kind() == ErrorKind::NotFound && !is_link(rt, path) => {
+            open_in_place(rt.alloc(), errors, path, place, recorder, options, false)
+        }
         Err(error) => {
-            let _ = match error.kind() {
-                ErrorKind::NotFound | ErrorKind::InvalidInput => {
-                    eprintln!(errors; "{path}: a symbolic link is not followed")
-                }
-                _ => eprintln!(errors; "{path}: can't be opened for reading and writing: {error}"),
-            };
+            report_unopened(errors, path, &error);
             drop(recorder);
             Err(StartFault::File)
         }
     }
 }
 
-// Opens the journal of a path as `open_file` does, with a file that is renewed when it has grown.
+// Opens the journal of a path as `open_or_begin` does, with a file that is renewed when it has
+// grown.
 fn open_renewed<R: AllocGlobal + Files<File = File> + Copy + Drop, E: Eprint>(
     rt: &R,
     errors: &E,
@@ -267,7 +286,8 @@ fn open_renewed<R: AllocGlobal + Files<File = File> + Copy + Drop, E: Eprint>(
             return Err(fault);
         }
     };
-    match open_file(rt, errors, path, &mut place, recorder, options) {
+    let opened = open_own(rt, path, FileAccess::Write);
+    match open_or_begin(rt, errors, path, opened, &mut place, recorder, options) {
         Ok(last) => {
             let file = RenewedFile::new(rt.alloc(), place, renewal_terms(options));
             Ok((file, last))
