@@ -1,0 +1,9 @@
+pub mod Lists
+pub mod TalkLemmas
+pub mod PlaceLemmas
+pub mod Steps
+pub mod LegalLemmas
+pub mod ClearLemmas
+pub mod BoardLemmas
+pub mod BuildingLemmas
+pub mod RunLemmas
