@@ -1,3 +1,4 @@
 pub mod AppendedStates
 pub mod NextRun
+pub mod QuestionLemmas
 pub mod ReadStates
