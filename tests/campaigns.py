@@ -122,13 +122,11 @@ class Meter(Server):
 
 
 class OddMeter:
-    """A scripted meter in the list of jobs. One that holds its connection up to the time limit is
-    only in the first campaign."""
+    """A scripted meter in the list of jobs. One that blocks its worker up to the time limit is only
+    in the first campaign."""
 
     def __init__(self, script, outcomes, frames):
         self.name = script.__name__
-        # (the note on an unknown row: a meter that received the request may have carried it out)
-        self.note = "sent, no answer" if max(frames) > 1 else "no association"
         self.outcomes = dict(zip(("disconnect", "reconnect", "state"), outcomes))
         self.frames = frames
         self.verbs = VERBS[:1] if script in HOLDING else VERBS
@@ -151,8 +149,6 @@ class OddMeter:
 
 class Place:
     """An address where no meter answers."""
-
-    note = "not reached"
 
     def __init__(self, name, port, times):
         self.name = name
@@ -218,9 +214,7 @@ def run_campaigns(name, street, workers):
         jobs = "".join(f"{one.name} 127.0.0.1:{one.port} {verb}\n" for one in there)
         status, text, errors = run_head_end(jobs, "--workers", str(workers), *LIMITS)
         wanted = report_of((one.name, one.expected_results()[turn]) for one in there)
-        notes = report_of((one.name, one.note) for one in there if one.expected_results()[turn] == "unknown")
-        check(f"{name}: {verb}", (status, text) == (0, wanted), status, differences(wanted, text), errors[:200])
-        check(f"{name}: {verb}: notes", errors == notes, differences(notes, errors))
+        check(f"{name}: {verb}", (status, text, errors) == (0, wanted, ""), status, differences(wanted, text), errors[:200])
         texts.append(text)
         for line in text.splitlines():
             known, row = line.split(" ", 1)
@@ -273,7 +267,7 @@ def campaigns_among_running_meters(name):
 def a_meter_is_reached_by_its_name(name):
     meter = ScriptedMeter(does_it)
     made = run_head_end(f"m1 localhost:{meter.port} disconnect\nm2 nowhere state\n", *LIMITS)
-    check(f"{name}: report", made == (0, "m1 done 0\nm2 unknown\n", "m2 not reached\n"), made)
+    check(f"{name}: report", made == (0, "m1 done 0\nm2 unknown\n", ""), made)
     check(f"{name}: what it got", [talk.frames for talk in meter.wait_for_talks(1)] == [[AARQ, REQUESTS["disconnect"], RELEASE]])
     meter.stop()
 
@@ -421,15 +415,6 @@ def expected_counts(expected):
     return counts
 
 
-def crowd_notes(wanted):
-    """The notes on the unknown rows of a crowd's report, sorted: the parts of a campaign end in any
-    order."""
-    names = [line.split()[0] for line in wanted.splitlines() if line.endswith(" unknown")]
-    openings = [CROWD[int(it.removeprefix("job")) % len(CROWD)][0] for it in names]
-    return sorted(f"{it} {'sent, no answer' if opening else 'no association'}"
-                  for it, opening in zip(names, openings))
-
-
 def run_campaign(path, *words):
     """Runs bin/campaign; returns its status, standard output, standard error and seconds. The files
     of parallel go to the folder of the jobs."""
@@ -444,8 +429,7 @@ def check_campaign(name, crowd, path, wanted, expected, *words):
     """Runs a campaign with a crowd and checks that the report is the expected one, and that each
     meter got each command once."""
     status, text, errors, seconds = run_campaign(path, *words)
-    check(f"{name}: report", (status, text) == (0, wanted), status, differences(wanted, text), errors[:500])
-    check(f"{name}: notes", sorted(errors.splitlines()) == crowd_notes(wanted), errors[:500])
+    check(f"{name}: report", (status, text, errors) == (0, wanted, ""), status, differences(wanted, text), errors[:500])
     got = crowd.counts()
     check(f"{name}: each command once", got == expected_counts(expected), got,
           expected_counts(expected))

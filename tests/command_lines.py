@@ -611,7 +611,7 @@ CASES = [
     ("a campaign without jobs", "head_end_cli", ["run", "--password", "12345678"], b"", b"", b"", 0),
     ("a closed port and a text that is no address", "head_end_cli", ["run", "--password", "12345678", "--connect-timeout", "2"],
      b"m1 127.0.0.1:1 disconnect\nm2 nowhere state\n", b"m1 unknown\nm2 unknown\n",
-     b"line 2: warning: the address has no port (expected HOST:PORT)\nm1 not reached\nm2 not reached\n", 0),
+     b"line 2: warning: the address has no port (expected HOST:PORT)\n", 0),
     ("a ledger in a folder that is missing", "head_end_cli", ["run", "--password", "12345678", "--ledger", f"{MISSING_FILE}/ledger"],
      b"m1 127.0.0.1:1 state\n", b"", b"ledger: can't open the file\nfault: write\n", 3),
     ("a folder instead of a ledger", "head_end_cli", ["run", "--password", "12345678", "--ledger", FOLDER.name],
@@ -662,20 +662,19 @@ for reader, crate, words, stderr, status in READERS:
                       WRONG_PASSWORD, 2))
 # Files of meters' passwords.
 UNKNOWN_BOTH = b"m1 unknown\nm2 unknown\n"
-NOTES_OF_BOTH = b"m1 not reached\nm2 not reached\n"
 PASSWORDS = ["run", "--connect-timeout", "2", "--passwords"]
 BOTH_FILE = password_file("both", b"m2 22222222\n\nm9 9\nm1 1")
 ONE_FILE = password_file("one", b"m2 22222222\n")
 TWO_METERS = b"m1 127.0.0.1:1 state\nm2 127.0.0.2:1 state\n"
 CASES += [
-    ("passwords of all meters", "head_end_cli", [*PASSWORDS, BOTH_FILE], TWO_METERS, UNKNOWN_BOTH, NOTES_OF_BOTH, 0),
-    ("a common password for the others", "head_end_cli", [*PASSWORDS, ONE_FILE, "--password", "12345678"], TWO_METERS, UNKNOWN_BOTH, NOTES_OF_BOTH, 0),
-    ("a common password of a file", "head_end_cli", [*PASSWORDS, ONE_FILE, "--password-file", ENDED_FILE], TWO_METERS, UNKNOWN_BOTH, NOTES_OF_BOTH, 0),
+    ("passwords of all meters", "head_end_cli", [*PASSWORDS, BOTH_FILE], TWO_METERS, UNKNOWN_BOTH, b"", 0),
+    ("a common password for the others", "head_end_cli", [*PASSWORDS, ONE_FILE, "--password", "12345678"], TWO_METERS, UNKNOWN_BOTH, b"", 0),
+    ("a common password of a file", "head_end_cli", [*PASSWORDS, ONE_FILE, "--password-file", ENDED_FILE], TWO_METERS, UNKNOWN_BOTH, b"", 0),
     ("a meter without a password", "head_end_cli", [*PASSWORDS, ONE_FILE], TWO_METERS, b"",
      b"job m1: it has no line in the file of --passwords, and there is no common password\n" + FAULT_INPUT, 2),
     ("the second meter without a password", "head_end_cli", [*PASSWORDS, password_file("third", b"m1 1\nm3 3\n")], TWO_METERS, b"",
      b"job m2: it has no line in the file of --passwords, and there is no common password\n" + FAULT_INPUT, 2),
-    ("a meter's password of 32 bytes", "head_end_cli", [*PASSWORDS, password_file("of 32", b"m2 1\nm1 " + b"p" * 32)], TWO_METERS, UNKNOWN_BOTH, NOTES_OF_BOTH, 0),
+    ("a meter's password of 32 bytes", "head_end_cli", [*PASSWORDS, password_file("of 32", b"m2 1\nm1 " + b"p" * 32)], TWO_METERS, UNKNOWN_BOTH, b"", 0),
     ("a wrong common password", "head_end_cli", [*PASSWORDS, BOTH_FILE, "--password", ""], TWO_METERS, b"", WRONG_PASSWORD, 2),
     ("no file of passwords", "head_end_cli", PASSWORDS, b"", b"", None, 2),
     ("no jobs, and no passwords", "head_end_cli", [*PASSWORDS, password_file("none", b"")], b"", b"", b"", 0),

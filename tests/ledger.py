@@ -4,9 +4,9 @@ against scripted meters that count what they receive are killed at random times,
 the same ledger until they are whole: no meter may get a second command, each command must have its
 mark in the ledger, no outcome may be lost, and SQLite must find each ledger that a kill left whole.
 Also tested: ledgers and lists that are refused, ledgers without their log, empty ones, two runs at
-once, meters that were down or opened no association, the order of one meter's jobs, meters with
-passwords of their own, meters that are asked for their states, a full disk, and each failing read,
-write and sync. Every wait has a time limit.
+once, meters that were down, the order of one meter's jobs, meters with passwords of their own,
+meters that are asked for their states, a full disk, and each failing read, write and sync. Every
+wait has a time limit.
 
 usage: tests/ledger.py [--long] [--seed N]
 
@@ -38,9 +38,8 @@ from counted_meters import COMMANDS, CountedMeters, kind_of
 from programs import HEAD_END
 from journal import NOBODY, SmallDisk, in_folder
 from refusing import Refusing, call_numbers
-from scripted_meters import CROWD, OPENED, REQUESTS, ScriptedMeter, Talk, answer_to
-from scripted_meters import answers_slowly, closes_at_once, closes_without_aare
-from scripted_meters import closes_without_answer, does_it, opens_without_the_service, rejects
+from scripted_meters import CROWD, REQUESTS, ScriptedMeter, answer_to, answers_slowly
+from scripted_meters import closes_without_answer, does_it
 from serving import PASSWORD, PATIENCE, Server, TOP, check, test
 
 
@@ -71,16 +70,11 @@ class Campaign:
         self.text = text_of(self.jobs)
         self.rows = [CROWD[kind_of(place)][2][verb] for place, (_, _, verb) in enumerate(self.jobs)]
         self.commands = [place for place, (_, _, verb) in enumerate(self.jobs) if verb in COMMANDS]
-        # the places whose meters open the association, so that a request is sent
-        self.open = {place for place in range(len(self.jobs)) if CROWD[kind_of(place)][0] == OPENED}
-        self.asked = set()  # the places whose meters have received a request
 
     def take_commands(self):
         """The number of commands that each place's meter has received since the last call."""
         received = self.meters.take_counts()
         assert not any(it["strange"] for it in received), "a meter received a strange frame"
-        self.asked |= {place for place, it in enumerate(received)
-                       if any(it[verb] for verb in REQUESTS)}
         return [it["disconnect"] + it["reconnect"] for it in received]
 
 
@@ -169,10 +163,6 @@ class History:
         assert found.check == [("ok",)], f"integrity_check: {found.check}"
         sent = {place for place, count in enumerate(self.commands) if count}
         assert sent <= found.begun, f"commands without a mark: {sorted(sent - found.begun)}"
-        early = found.begun - self.campaign.open
-        assert not early, f"marks without an association: {sorted(early)}"
-        unasked = set(found.outcomes) - self.campaign.asked
-        assert self.may_fail or not unasked, f"outcomes without a request: {sorted(unasked)}"
         kept = {place: found.outcomes.get(place) for place in self.outcomes}
         assert kept == self.outcomes, f"outcomes lost or changed: {kept}, not {self.outcomes}"
         wrong = {place: row for place, row in found.outcomes.items()
@@ -229,19 +219,15 @@ def a_ledger_changes_no_row(name, folder):
         check(f"{name}: its jobs", found.jobs == campaign.jobs, found.jobs[:3])
         mode = ledger.stat().st_mode & 0o777
         check(f"{name}: its owner alone may read it", mode == 0o600, oct(mode))
-        wanted = set(campaign.commands) & campaign.open
-        check(f"{name}: its marks", found.begun == wanted, sorted(found.begun ^ wanted)[:9])
-        check(f"{name}: its outcomes", set(found.outcomes) == campaign.open,
-              sorted(set(found.outcomes) ^ campaign.open)[:9])
+        check(f"{name}: its marks", found.begun >= set(campaign.commands),
+              sorted(set(campaign.commands) - found.begun)[:9])
+        check(f"{name}: its outcomes", sorted(found.outcomes) == list(range(JOBS)),
+              len(found.outcomes))
         again = run(ledger, campaign.text, 16)
         check(f"{name}: run again", again[:2] == ran[:2],
               first_differences(ran.report, again.report), again.errors)
-        received = [+it for it in meters.take_counts()]
-        wanted = [{} if place in campaign.open else {"connections": 1, "aarq": 1}
-                  for place in range(JOBS)]
-        check(f"{name}: without an outcome alone", received == wanted,
-              [(place, *both) for place, both in enumerate(zip(received, wanted))
-               if both[0] != both[1]][:5])
+        received = meters.take_counts()
+        check(f"{name}: no connection again", not any(map(sum, map(dict.values, received))))
         check(f"{name}: and no entry", entries(ledger) == found)
 
 
@@ -428,93 +414,35 @@ def two_runs_at_once_are_refused(name, folder):
         check(f"{name}: each command once", max(commands) == 1, commands)
 
 
-def run_against(listener, play, ledger, text):
-    """A run whose first job is at a listener, which plays a script with its client and closes the
-    connection."""
-    process = subprocess.Popen(words_of(ledger), stdin=subprocess.PIPE, text=True,
-                               stdout=subprocess.PIPE, stderr=subprocess.PIPE)
-    try:
-        process.stdin.write(text)
-        process.stdin.close()
-        client, _ = listener.accept()
-        with client:
-            play(Talk(client))
-        process.stdin = None
-        output, errors = process.communicate(timeout=LONGEST)
-    finally:
-        process.kill()
-    return Ran(process.returncode, output, errors)
-
-
 @in_folder
 def a_meter_that_was_down_is_commanded_later(name, folder):
-    """A meter that is down, then closes the connection without an association, and then after its
-    command."""
     with running_meters(6) as meters, socket.socket() as down:
         down.bind(("127.0.0.1", 0))
         campaign, ledger = Campaign(meters, lambda place: "disconnect"), folder / "ledger"
-        text = f"down 127.0.0.1:{down.getsockname()[1]} disconnect\n" + campaign.text
-        ran = run(ledger, text)
+        job = f"down 127.0.0.1:{down.getsockname()[1]} disconnect\n"
+        ran = run(ledger, job + campaign.text)
         check(f"{name}: its row", ran.report.startswith("down unknown\n") and ran.status == 0, ran)
         check(f"{name}: no mark", 0 not in entries(ledger).begun, entries(ledger).begun)
         check(f"{name}: its note", "down not reached" in ran.errors.splitlines(), ran.errors[-300:])
         first = campaign.take_commands()
         down.listen()
         down.settimeout(PATIENCE)
-        ran = run_against(down, closes_at_once, ledger, text)
-        check(f"{name}: without an association", "down no association" in ran.errors.splitlines(),
-              ran.errors[-300:])
-        found = entries(ledger)
-        check(f"{name}: still no mark", 0 not in {*found.begun, *found.outcomes}, found)
-        requests = []
-        ran = run_against(down, lambda talk: requests.append(talk.open()), ledger, text)
-        check(f"{name}: it is commanded", requests == [REQUESTS["disconnect"]], requests)
-        check(f"{name}: its mark", 0 in entries(ledger).begun, entries(ledger).begun)
-        check(f"{name}: its note then", "down sent, no answer" in ran.errors.splitlines(),
-              ran.errors[-300:])
+        process = subprocess.Popen(words_of(ledger), stdin=subprocess.PIPE, text=True,
+                                   stdout=subprocess.PIPE, stderr=subprocess.PIPE)
+        try:
+            process.stdin.write(job + campaign.text)
+            process.stdin.close()
+            client, _ = down.accept()
+            client.close()
+            process.stdin = None
+            _, errors = process.communicate(timeout=LONGEST)
+        finally:
+            process.kill()
+        check(f"{name}: it is called", 0 in entries(ledger).begun, entries(ledger).begun)
+        check(f"{name}: its note then", "down sent, no answer" in errors.splitlines(),
+              errors[-300:])
         later = campaign.take_commands()
         check(f"{name}: nobody else", not any(later) and max(first) == 1, later)
-
-
-def opens_later(play):
-    """A script that is this one for the first client; each later one is served."""
-    clients = []
-
-    def play_in_turn(talk):
-        clients.append(talk)
-        return (play if len(clients) == 1 else does_it)(talk)
-    return play_in_turn
-
-
-@in_folder
-def a_meter_without_an_association_is_run_again(name, folder):
-    """A job whose meter rejects the association, or does not open it, has neither a mark nor an
-    outcome, and the same command runs it again. Then it is whole."""
-    scripts = {rejects: ("rejected 1", ""), opens_without_the_service: ("rejected 0", ""),
-               closes_without_aare: ("unknown", "no association")}
-    for verb in REQUESTS:
-        ledger, meters = folder / verb, [ScriptedMeter(opens_later(it)) for it in scripts]
-        jobs = [(f"m{number}", f"127.0.0.1:{it.port}", verb) for number, it in enumerate(meters)]
-        notes = "".join(f"m{number} {note}\n" for number, (_, note) in enumerate(scripts.values())
-                        if note)
-        wanted = report_of(jobs, [row for row, _ in scripts.values()])
-        ran = run(ledger, text_of(jobs))
-        check(f"{name}, {verb}: report", ran == (0, wanted, notes), ran, wanted)
-        found = entries(ledger)
-        check(f"{name}, {verb}: no entry", not found.begun and not found.outcomes, found)
-        check(f"{name}, {verb}: its state", status(ledger) == (0, state_of(found), ""))
-        done = report_of(jobs, ["done 0"] * len(jobs))
-        for turn in ("again", "when it is whole"):
-            ran = run(ledger, text_of(jobs))
-            check(f"{name}, {verb}: {turn}", ran == (0, done, ""), ran)
-        found, places = entries(ledger), set(range(len(jobs)))
-        check(f"{name}, {verb}: entries", found.begun == (places if verb in COMMANDS else set())
-              and set(found.outcomes) == places, found)
-        for meter in meters:
-            frames = [talk.frames for talk in meter.wait_for_talks(2)]
-            check(f"{name}, {verb}: one request", [it[1:2] for it in frames]
-                  == [[], [REQUESTS[verb]]], frames)
-            meter.stop()
 
 
 @in_folder
@@ -1077,8 +1005,7 @@ def running_meters(count=JOBS):
 
 TESTS = (a_ledger_changes_no_row, killed_campaigns_command_nobody_twice, another_list_is_refused,
          what_is_no_ledger_is_refused, damaged_ledgers_are_refused, two_runs_at_once_are_refused,
-         a_meter_that_was_down_is_commanded_later, a_meter_without_an_association_is_run_again,
-         jobs_of_a_meter_run_in_order,
+         a_meter_that_was_down_is_commanded_later, jobs_of_a_meter_run_in_order,
          each_meter_has_its_password, the_state_is_that_of_the_ledger,
          meters_without_an_answer_are_asked, nothing_to_ask_changes_nothing,
          other_files_of_answers_are_refused, what_has_no_state_is_refused,

@@ -6,24 +6,24 @@ use Rattle.std.specs.Io.KnownBytes.{Appends}
 use Rattle.sqlite_disk.specs.declared.Disk.{Ghosts}
 use Rattle.sqlite.specs.Recovery.{Image}
 use Rattle.client_core.specs.declared.job.Job.{Job}
-use Rattle.campaign_loop.specs.Wires.{Wire}
-use Rattle.campaign_loop.specs.declared.jobs.CampaignJobs.{CampaignJobs}
-use Rattle.ledger_files.specs.Asked.{IsAskedOnFile}
+use Rattle.head_end.specs.Connections.{Forecast}
+use Rattle.ledger_campaigns.specs.AskedMeters.{IsAsked}
+use Rattle.ledger_campaigns.specs.declared.asked_meters.AskedMeters.{AskedMeters}
+use Rattle.ledger_files.specs.Answered.{AreRecorded}
 use Rattle.ledger_files.specs.declared.asking.AskedLedger.{AskedLedger}
-use Rattle.head_end_cli.specs.Printed.{IsPlanned}
 
 -- whether the answers are recorded, and the report of the questions was printed
 pub record PrintsAsked (asked : AskedLedger) (written written' : Option (List ℕ)) : Type 0 where
   pub recorded : IsOk asked.recorded
-  pub printed : Appends written written' asked.report.text
+  pub printed : Appends written written' asked.text
 
 -- whether the meters of these jobs were asked, their answers are recorded next to the ledger, and
 -- the report was printed
-pub record PrintsAnswers {D : Type 0} (g : Ghosts D) (held : Image) (limit : ℕ) (jobs : List Job)
-    (passwords : List (List ℕ)) (before after : Option (List Wire))
-    (written written' : Option (List ℕ)) : Type 0 where
-  pub list : CampaignJobs
-  pub planned : IsPlanned jobs passwords list
-  pub asked : AskedLedger
-  pub were : IsAskedOnFile g held list limit before after asked
-  pub done : PrintsAsked asked written written'
+pub record PrintsAnswers {D : Type 0} (g : Ghosts D) (held : Image)
+    (tells : List ℕ → Option Forecast) (workers : ℕ) (jobs : List Job)
+    (passwords : List (List ℕ)) (written written' : Option (List ℕ)) : Type 0 where
+  pub asked_at : Option ℕ
+  pub asked : AskedMeters
+  pub were : IsAsked tells workers jobs passwords asked_at asked
+  pub recorded : AreRecorded g held asked.answers.items
+  pub printed : Appends written written' asked.text

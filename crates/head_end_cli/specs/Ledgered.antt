@@ -1,22 +1,19 @@
 -- What `run --ledger` and `status` print.
---     PrintsRun         the jobs were run with the ledger, which did not fail, and the report is
---                       printed
+--     PrintsTexts       the report is printed, unless out of memory
+--     PrintsRun         the jobs were run with permits of the ledger, which did not fail, and the
+--                       report is printed
 --     HaveAnswers       lines of a ledger have their answers
 --     PrintsStatus      the lines of a ledger, with their answers, are printed
-use Rattle.std.specs.Prelude.{◌≡◌, ℕ, codes, map, List, Option}
+use Rattle.std.specs.Prelude.{◌≡◌, ℕ, codes, map, List, Option, Result, Ok, Err}
 use Rattle.std.specs.Io.KnownBytes.{Appends}
+use Rattle.std.specs.declared.alloc.AllocError.{AllocError}
 use Rattle.clap.specs.Matches.{first_value}
 use Rattle.clap.specs.declared.parser.matches.Found.{Found}
 use Rattle.sqlite_disk.specs.declared.Disk.{Ghosts}
-use Rattle.sqlite.specs.declared.FileStore.{FileStore}
-use Rattle.sqlite.specs.Held.{Held}
 use Rattle.sqlite.specs.Recovery.{Image}
 use Rattle.client_core.specs.declared.job.Job.{Job}
-use Rattle.campaign_ledger.specs.Grants.{LedgerState}
-use Rattle.campaign_loop.specs.Wires.{Wire}
-use Rattle.campaign_loop.specs.declared.campaign.LoopReport.{LoopReport}
-use Rattle.campaign_loop.specs.declared.jobs.CampaignJobs.{CampaignJobs}
-use Rattle.head_end_cli.specs.Printed.{IsPlanned}
+use Rattle.head_end.specs.Connections.{Forecast}
+use Rattle.ledger_campaigns.specs.declared.texts.LedgerTexts.{LedgerTexts}
 use Rattle.ledger_files.specs.declared.end.LedgerEnd.TheVariants.{Closed}
 use Rattle.ledger_files.specs.Runs.{IsRunOnFile}
 use Rattle.ledger_reports.specs.Answers.{with_answer}
@@ -26,18 +23,20 @@ use Rattle.ledger_records.specs.Formats.{IsNamed}
 use Rattle.ledger_records.specs.Texts.{text_in}
 use Rattle.ledger_records.specs.declared.format.LedgerFormat.{LedgerFormat}
 
--- whether the jobs of a plan were run with the ledger in the file, which was closed after no call
+-- whether the report of the texts was printed
+abbrev pub PrintsTexts : {F : Type 0} → Result LedgerTexts F → Option (List ℕ) → Option (List ℕ)
+    → Type 0
+PrintsTexts (Ok texts) written written' = Appends written written' texts.text
+PrintsTexts (Err fault) written written' = ⊥
+
+-- whether the jobs were run with permits of the ledger in the file, which was closed after no call
 -- on it had failed, and the report of all of them was printed
-pub record PrintsRun {D : Type 0} (g : Ghosts D) (held : Image) (limit : ℕ) (jobs : List Job)
-    (passwords : List (List ℕ)) (before after : Option (List Wire))
+pub record PrintsRun {D : Type 0} (g : Ghosts D) (held : Image)
+    (tells : List ℕ → Option Forecast) (jobs : List Job) (passwords : List (List ℕ))
     (written written' : Option (List ℕ)) : Type 0 where
-  pub list : CampaignJobs
-  pub planned : IsPlanned jobs passwords list
-  pub start : LedgerState (Held (FileStore D g))
-  pub now : Held (FileStore D g)
-  pub report : LoopReport
-  pub ran : IsRunOnFile g held list limit before after start now report Closed
-  pub printed : Appends written written' report.text
+  pub texts : Result LedgerTexts AllocError
+  pub ran : IsRunOnFile g held tells jobs passwords texts Closed
+  pub printed : PrintsTexts texts written written'
 
 -- whether lines are those that were read of a ledger, each with the latest of the answers that were
 -- read next to it, if it has one

@@ -4,27 +4,25 @@ ghost use Rattle.std.specs.Prelude.{◌≡◌, string_bytes, IfOk, OnOk};
 ghost use Rattle.sqlite.specs.WalFiles.{image_at};
 ghost use Rattle.clap.specs.Matches.{found_of};
 ghost use Rattle.head_end_cli.specs.Asking.{PrintsAnswers, PrintsAsked};
-ghost use Rattle.head_end_commands.specs.Options.{AreConnections, AreLimits};
+ghost use Rattle.head_end_commands.specs.Options.{AreLimits, AreWorkers};
 ghost use Rattle.head_end_commands.specs.Passwords.{HasPasswords};
 ghost use Rattle.ledger_files.specs.Asked.{AreQuestions};
 
-use crate::campaign::jobs_of;
-use crate::choices::own_choices;
 use crate::ledgered::LedgeredCampaign;
 use crate::presence::present_ledger;
 use crate::progress::{CampaignProgress, ProgressWatch};
 use crate::status::{load_answers, read_fault};
-use campaign_loop::{LoopPlan, Wires};
 use clap::ArgMatches;
-use head_end::Jobs;
+use head_end::{Connector, Jobs};
 use head_end_commands::{plan_jobs, print_output};
-use ledger_files::{AskedLedger, LedgerPresence, ask_with_ledger, questions, read_questions};
+use ledger_campaigns::{LedgeredPlan, questions};
+use ledger_files::{AskedLedger, LedgerPresence, ask_with_ledger, read_questions};
 use program::Fault;
 use sqlite::{FileFrom, Start};
 use sqlite_disk::Disk;
 use sqlite_ledger::LedgerOpenFault;
 use std::io::Write;
-use std::sync::Wait;
+use std::thread::Threads;
 
 // Returns the questions of the ledger at a path, as `load_questions_of` does; an empty file, which
 // no run has begun, has none. Errors: also `Input` for a ledger without its log.
@@ -87,9 +85,8 @@ fn print_answers<W: Write>(
 ) -> Result<(), Fault>
     ensures { OnOk result (PrintsAsked asked (W.contents output.old) (W.contents output.new)) }
 {
-    let AskedLedger { report, recorded } = asked;
-    let printed = print_output(rt, output, report.text.as_slice());
-    drop(report);
+    let AskedLedger { text, recorded } = asked;
+    let printed = print_output(rt, output, text.as_slice());
     match recorded {
         Ok(()) => printed,
         Err(fault) => Err(record_fault(rt, fault)),
@@ -106,8 +103,8 @@ pub(crate) fn plan_asking(
 ) -> Result<LedgeredCampaign, Fault>
     ensures questions { IfOk result (λ plan. AreQuestions plan.campaign.jobs) }
     ensures limits { IfOk result (λ plan. AreLimits (found_of matches.now) plan.campaign.limits) }
-    ensures connections { IfOk result (λ plan. AreConnections (found_of matches.now)
-        plan.campaign.connections) }
+    ensures workers { IfOk result (λ plan. AreWorkers (found_of matches.now)
+        plan.campaign.workers) }
     ensures passwords { IfOk result (λ plan. HasPasswords (found_of matches.now)
         plan.campaign.jobs plan.campaign.passwords) }
     ensures path { IfOk result (λ plan. string_bytes plan.path ≡ path.now) }
@@ -127,17 +124,17 @@ pub(crate) fn plan_asking(
 // where `S` stands for what that file holds, and then prints the report. If the answers are not
 // recorded, writes a line on standard error and prints the report as well. Errors: `Memory`;
 // `Input` if the file of answers is something else; `Write`.
-pub(crate) fn ask<S: Start, R: Wait, C: Wires, W: Write>(
+pub(crate) fn ask<S: Start, R: Threads + Sync, C: Connector, W: Write>(
     rt: &HostRuntime,
-    wait: &R,
-    wires: &mut C,
+    threads: &R,
+    connector: &C,
     plan: &LedgeredCampaign,
     start: S,
     output: &mut W,
 ) -> Result<(), Fault>
     ensures { OnOk result (PrintsAnswers ⟦<FileFrom<S> as Disk>⟧ (image_at S.Start)
-        plan.now.campaign.connections plan.now.campaign.jobs plan.now.campaign.passwords
-        (C.log wires.old) (C.log wires.new) (W.contents output.old) (W.contents output.new)) }
+        (C.tells connector.now) plan.now.campaign.workers plan.now.campaign.jobs
+        plan.now.campaign.passwords (W.contents output.old) (W.contents output.new)) }
 {
     let campaign = &plan.campaign;
     let progress = CampaignProgress::new(rt, campaign.jobs.len());
@@ -146,15 +143,13 @@ pub(crate) fn ask<S: Start, R: Wait, C: Wires, W: Write>(
         progress: &progress,
         is_shown: campaign.is_shown,
     };
-    let Ok(choices) = own_choices(rt.alloc(), campaign.jobs.len()) else {
-        return Err(Fault::Memory);
-    };
-    let asking = LoopPlan {
-        list: jobs_of(campaign, choices.as_slice()),
-        limit: usize::from(campaign.connections),
+    let asking = LedgeredPlan {
+        jobs: &campaign.jobs,
+        passwords: campaign.passwords.as_slice(),
+        workers: campaign.workers,
         watcher: &watch,
     };
-    match ask_with_ledger(rt, wait, &asking, plan.path.as_str(), start, wires) {
+    match ask_with_ledger(rt, threads, &asking, plan.path.as_str(), start, connector) {
         Ok(asked) => print_answers(rt, asked, output),
         Err(_) => Err(Fault::Memory),
     }

@@ -9,8 +9,6 @@
 
 mod asking;
 mod campaign;
-mod choices;
-mod connecting;
 mod ledgered;
 mod presence;
 mod private_copy;
@@ -18,10 +16,10 @@ mod progress;
 mod status;
 
 use crate::asking::{ask, plan_asking};
-use crate::connecting::open_sockets;
 use crate::ledgered::{LedgeredCampaign, plan_ledgered, run_ledgered};
 use crate::status::print_status;
 use clap::ArgMatches;
+use head_end::TcpConnector;
 use head_end_commands::{CampaignPlan, check, command_line, plan_campaign};
 use program::{
     Fault, exit_code, has_option, is_password_in_environment, print_help_or_missing_password,
@@ -29,7 +27,6 @@ use program::{
 };
 use sqlite::Unknown;
 use std::process::ExitCode;
-use std::sync::Wait;
 
 // The next step after the command line is read.
 #[derive(Drop)]
@@ -96,47 +93,26 @@ fn begin(rt: &HostRuntime) -> Result<HeadEndCommand, Fault> {
     }
 }
 
-// Runs what is prepared over TCP. Errors: those of the command, and of `open_sockets`.
-fn run_over_sockets<R: Wait>(rt: &HostRuntime, wait: &R, plan: &CampaignPlan) -> Result<(), Fault> {
-    let mut sockets = open_sockets(rt, plan)?;
-    let done = campaign::run(rt, wait, &mut sockets, plan, &mut rt.stdout());
-    let _ = sockets.finish(wait);
-    done
-}
-
-// Runs a campaign with its ledger over TCP.
-fn run_ledgered_over_sockets<R: Wait>(
-    rt: &HostRuntime,
-    wait: &R,
-    plan: &LedgeredCampaign,
-) -> Result<(), Fault> {
-    let mut sockets = open_sockets(rt, &plan.campaign)?;
-    let done = run_ledgered(rt, wait, &mut sockets, plan, Unknown, &mut rt.stdout());
-    let _ = sockets.finish(wait);
-    done
-}
-
-// Asks the meters of a ledger over TCP.
-fn ask_over_sockets<R: Wait>(
-    rt: &HostRuntime,
-    wait: &R,
-    plan: &LedgeredCampaign,
-) -> Result<(), Fault> {
-    let mut sockets = open_sockets(rt, &plan.campaign)?;
-    let done = ask(rt, wait, &mut sockets, plan, Unknown, &mut rt.stdout());
-    let _ = sockets.finish(wait);
-    done
-}
-
 fn main(rt: HostRuntime) -> ExitCode {
-    let done = match begin(&rt) {
-        Ok(HeadEndCommand::Ended(status)) => Ok(status),
-        Ok(HeadEndCommand::Campaign(plan)) => run_over_sockets(&rt, &rt, &plan).map(|_| 0),
-        Ok(HeadEndCommand::Ledgered(plan)) => {
-            run_ledgered_over_sockets(&rt, &rt, &plan).map(|_| 0)
+    match begin(&rt) {
+        Ok(HeadEndCommand::Ended(status)) => ExitCode::from(status),
+        Ok(HeadEndCommand::Campaign(plan)) => {
+            let connector = TcpConnector::new(rt, plan.limits);
+            let done = campaign::run(&rt, &rt, &connector, &plan, &mut rt.stdout()).map(|_| 0);
+            exit_code(&rt, done)
         }
-        Ok(HeadEndCommand::Asking(plan)) => ask_over_sockets(&rt, &rt, &plan).map(|_| 0),
-        Err(fault) => Err(fault),
-    };
-    exit_code(&rt, done)
+        Ok(HeadEndCommand::Ledgered(plan)) => {
+            let connector = TcpConnector::new(rt, plan.campaign.limits);
+            let output = &mut rt.stdout();
+            let done = run_ledgered(&rt, &rt, &connector, &plan, Unknown, output);
+            exit_code(&rt, done.map(|_| 0))
+        }
+        Ok(HeadEndCommand::Asking(plan)) => {
+            let connector = TcpConnector::new(rt, plan.campaign.limits);
+            let output = &mut rt.stdout();
+            let done = ask(&rt, &rt, &connector, &plan, Unknown, output);
+            exit_code(&rt, done.map(|_| 0))
+        }
+        Err(fault) => exit_code(&rt, Err(fault)),
+    }
 }

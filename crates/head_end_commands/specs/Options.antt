@@ -1,11 +1,10 @@
 -- The values of the options of `run` and `ask`.
---     IsLimit          the time limit of an option
---     AreLimits        both time limits
---     AreConnections   the number of connections
-use Rattle.std.specs.Prelude.{◌≡◌, ◌≤◌, ◌*◌, ◌==◌, ℕ, codes, List, None, if◌then◌else◌}
+--     IsLimit      the time limit of an option
+--     AreLimits    both time limits
+--     AreWorkers   the number of workers
+use Rattle.std.specs.Prelude.{◌≡◌, ◌≤◌, ◌*◌, ◌==◌, ℕ, codes, List, if◌then◌else◌}
 use Rattle.std.specs.Duration.{as_nanos}
 use Rattle.std.specs.declared.time.Duration.{Duration}
-use Rattle.clap.specs.Matches.{one_text}
 use Rattle.clap.specs.declared.parser.matches.Found.{Found}
 use Rattle.head_end.specs.declared.tcp.TcpLimits.{TcpLimits}
 use Rattle.program.specs.Values.{IsNumber}
@@ -25,13 +24,11 @@ pub record AreLimits (found : Found) (limits : TcpLimits) : Type 0 where
   pub connect : IsLimit found (codes "connect-timeout") limits.connect
   pub answer : IsLimit found (codes "timeout") limits.answer
 
--- whether this is a number of connections from 1 to 16,384: that of the option `--workers`, if it
--- is given, else that of the option `--connections`, if it is in range
-pub record AreConnections (found : Found) (connections : ℕ) : Type 0 where
+-- whether this is a number of workers from 1 to 16, the one of the option `--workers` if that is in
+-- range
+pub record AreWorkers (found : Found) (workers : ℕ) : Type 0 where
   pub number : ℕ
-  pub of_workers : IsNumber 8 found (codes "workers") number
-  pub of_connections : one_text found (codes "workers") ≡ None
-      → IsNumber 16 found (codes "connections") number
-  pub are : 1 ≤ number → number ≤ 16_384 → connections ≡ number
-  pub some : 1 ≤ connections
-  pub few : connections ≤ 16_384
+  pub number_is : IsNumber 8 found (codes "workers") number
+  pub workers_are : 1 ≤ number → number ≤ 16 → workers ≡ number
+  pub some : 1 ≤ workers
+  pub few : workers ≤ 16

@@ -11,20 +11,12 @@ const PASSWORDS: OptionText = OptionText {
     help: "File of lines `NAME PASSWORD`; only its owner may have access to it",
 };
 
-// `--connections`.
-const CONNECTIONS: OptionText = OptionText {
-    name: "connections",
-    value: OptionValue::Number("N", NumberRange::U16(1, 16_384)),
-    presence: Presence::Default("1000"),
-    help: "Number of meters to contact at once, 1 to 16384",
-};
-
 // `--workers`.
 const WORKERS: OptionText = OptionText {
     name: "workers",
     value: OptionValue::Number("N", NumberRange::U8(1, 16)),
-    presence: Presence::Optional,
-    help: "The same, 1 to 16, instead of --connections",
+    presence: Presence::Default("4"),
+    help: "Number of meters to contact in parallel, 1 to 16",
 };
 
 // `--timeout`.
@@ -92,11 +84,10 @@ const VERBOSE_FINDINGS: OptionText = OptionText {
 };
 
 // The options of `run`, in the order of its help.
-pub(crate) static RUN: [OptionText; 10] = [
+pub(crate) static RUN: [OptionText; 9] = [
     PASSWORD,
     PASSWORD_FILE,
     PASSWORDS,
-    CONNECTIONS,
     WORKERS,
     TIMEOUT,
     CONNECT_TIMEOUT,
@@ -106,12 +97,11 @@ pub(crate) static RUN: [OptionText; 10] = [
 ];
 
 // The options of `ask`, in the order of its help.
-pub(crate) static ASK: [OptionText; 10] = [
+pub(crate) static ASK: [OptionText; 9] = [
     LEDGER_TO_ASK_BY,
     PASSWORD,
     PASSWORD_FILE,
     PASSWORDS,
-    CONNECTIONS,
     WORKERS,
     TIMEOUT,
     CONNECT_TIMEOUT,

@@ -1,11 +1,11 @@
 //! `plan_campaign` and `plan_jobs`: what a campaign starts with: its options, and its jobs, which
 //! are those of the list in an input or are given.
-ghost use Rattle.std.specs.Prelude.{◌≡◌, ◌≤◌, None, Ok, codes, length, IfOk, IfErr, IfSome};
+ghost use Rattle.std.specs.Prelude.{◌≡◌, ◌≤◌, Ok, codes, length, IfOk, IfErr, IfSome};
 ghost use Rattle.std.specs.List.{All};
 ghost use Rattle.acse_ber.specs.Password.{IsPassword};
-ghost use Rattle.clap.specs.Matches.{found_of, one_text};
+ghost use Rattle.clap.specs.Matches.{found_of};
 ghost use Rattle.head_end_commands.specs.Lists.{AreJobsOf};
-ghost use Rattle.head_end_commands.specs.Options.{AreConnections, AreLimits, IsLimit};
+ghost use Rattle.head_end_commands.specs.Options.{AreLimits, AreWorkers, IsLimit};
 ghost use Rattle.program.specs.Values.{IsNumber};
 ghost use Rattle.head_end_commands.specs.Passwords.{ArePasswords, HasPasswords, IsCommonPassword};
 ghost use Rattle.head_end_commands.specs.Passwords.{IsStored, stored_bytes};
@@ -31,16 +31,16 @@ pub struct CampaignPlan {
     pub jobs: Jobs,
     /// The password of each job, 1 to 32 bytes, in the same order.
     pub passwords: Listed<Octets>,
-    /// The maximum number of open connections, 1 to 16,384.
-    pub connections: u16,
+    /// The number of workers, 1 to 16.
+    pub workers: u8,
     /// The time limits of each connection.
     pub limits: TcpLimits,
     /// Whether the progress is shown on standard error.
     pub is_shown: bool,
     ghost sized: { All IsPassword passwords },
     ghost paired: { length passwords ≡ length jobs },
-    ghost some: { 1 ≤ connections },
-    ghost within_max: { connections ≤ 16_384 },
+    ghost some: { 1 ≤ workers },
+    ghost within_max: { workers ≤ 16 },
 }
 
 // Returns the seconds of an option, or 0 if it has no value.
@@ -69,24 +69,18 @@ fn limits_of(matches: &ArgMatches<'_>) -> TcpLimits
     }
 }
 
-// Returns the number of the option `--workers`, else that of the option `--connections`, or 1,000
-// if neither has a value.
-fn number_of_connections(matches: &ArgMatches<'_>) -> u16
-    ensures workers { IsNumber 8 (found_of matches.now) (codes "workers") result }
-    ensures connections { one_text (found_of matches.now) (codes "workers") ≡ None
-        → IsNumber 16 (found_of matches.now) (codes "connections") result }
+// Returns the number of the option `--workers`, or 4 if it has no value.
+fn number_of_workers(matches: &ArgMatches<'_>) -> u8
+    ensures { IsNumber 8 (found_of matches.now) (codes "workers") result }
 {
-    match matches.get_one::<u8>("workers") {
-        Some(number) => u16::from(number),
-        None => matches.get_one::<u16>("connections").unwrap_or(1_000),
-    }
+    matches.get_one::<u8>("workers").unwrap_or(4)
 }
 
-// Returns the maximum number of open connections, 1 to 16,384.
-fn connections(matches: &ArgMatches<'_>) -> u16
-    ensures { AreConnections (found_of matches.now) result }
+// Returns the number of workers, 1 to 16.
+fn workers(matches: &ArgMatches<'_>) -> u8
+    ensures { AreWorkers (found_of matches.now) result }
 {
-    number_of_connections(matches).clamp(1, 16_384)
+    number_of_workers(matches).clamp(1, 16)
 }
 
 // Returns the bytes of a password. Errors: `Input` if they are not 1 to 32, `Memory`.
@@ -193,8 +187,7 @@ fn plan_with(
     requires { IfSome common.now IsPassword }
     ensures jobs { IfOk result (λ plan. plan.jobs ≡ jobs) }
     ensures limits { IfOk result (λ plan. AreLimits (found_of matches.now) plan.limits) }
-    ensures connections { IfOk result (λ plan. AreConnections (found_of matches.now)
-        plan.connections) }
+    ensures workers { IfOk result (λ plan. AreWorkers (found_of matches.now) plan.workers) }
     ensures passwords { IfOk result (λ plan. ArePasswords (found_of matches.now) common.now
         plan.jobs plan.passwords) }
     ensures err { IfErr result (IsJobsFault (found_of matches.now) common.now) }
@@ -203,7 +196,7 @@ fn plan_with(
         Ok(passwords) => Ok(CampaignPlan {
             jobs,
             passwords,
-            connections: connections(matches),
+            workers: workers(matches),
             limits: limits_of(matches),
             is_shown: matches.get_flag("progress") || rt.stderr().is_terminal(),
         }),
@@ -228,8 +221,7 @@ pub fn plan_jobs(
 ) -> Result<CampaignPlan, Fault>
     ensures jobs { IfOk result (λ plan. plan.jobs ≡ jobs) }
     ensures limits { IfOk result (λ plan. AreLimits (found_of matches.now) plan.limits) }
-    ensures connections { IfOk result (λ plan. AreConnections (found_of matches.now)
-        plan.connections) }
+    ensures workers { IfOk result (λ plan. AreWorkers (found_of matches.now) plan.workers) }
     ensures passwords { IfOk result (λ plan. HasPasswords (found_of matches.now) plan.jobs
         plan.passwords) }
     ensures err { IfErr result (IsPlanFault (found_of matches.now)) }
@@ -260,8 +252,7 @@ pub fn plan_campaign<I: Read + Drop>(
 ) -> Result<CampaignPlan, Fault>
     ensures jobs { IfOk result (λ plan. AreJobsOf (I.remaining input) plan.jobs) }
     ensures limits { IfOk result (λ plan. AreLimits (found_of matches.now) plan.limits) }
-    ensures connections { IfOk result (λ plan. AreConnections (found_of matches.now)
-        plan.connections) }
+    ensures workers { IfOk result (λ plan. AreWorkers (found_of matches.now) plan.workers) }
     ensures passwords { IfOk result (λ plan. HasPasswords (found_of matches.now) plan.jobs
         plan.passwords) }
     ensures err { IfErr result (IsCampaignFault (found_of matches.now) (I.remaining input)) }

@@ -1,4 +1,3 @@
 pub mod AppendedStates
 pub mod NextRun
-pub mod QuestionLemmas
 pub mod ReadStates

@@ -5,7 +5,5 @@ pub mod Asked
 pub mod Closings
 pub mod Faults
 pub mod Opened
-pub mod Questions
 pub mod Reading
 pub mod Runs
-pub mod StateAnswers

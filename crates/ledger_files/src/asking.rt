@@ -1,28 +1,26 @@
 //! Asks the meters whose commands may have been sent and that gave no valid answer.
-ghost use Rattle.std.specs.Prelude.{◌≤◌, ◌^◌, length, IfOk};
+ghost use Rattle.std.specs.Prelude.{IfOk};
 ghost use Rattle.sqlite.specs.WalFiles.{image_at};
 ghost use Rattle.ledger_files.specs.Asked.{AreQuestions, IsAskedOnFile};
 
 use crate::answers::append_answers;
-use crate::second_look::questions;
 use crate::reading::read_ledger;
-use crate::state_answers::answers_of;
-use campaign_board::{NoBook, blank_entries};
-use campaign_loop::{LoopPlan, LoopReport, LoopRun, Wires, run_plan};
-use head_end::{Jobs, JobsFault, Watcher};
+use cosem_axdr::Octets;
+use head_end::{Connector, Jobs, JobsFault, Watcher};
+use ledger_campaigns::{AskedMeters, LedgeredPlan, ask_meters, questions};
 use sqlite::{FileFrom, Start};
 use sqlite_disk::Disk;
 use sqlite_ledger::LedgerOpenFault;
 use std::alloc::AllocError;
 use std::rt::HostRuntime;
-use std::sync::Wait;
+use std::thread::Threads;
 use std::time::Clock;
 
 /// What comes of asking the meters of a ledger.
 #[derive(Drop)]
 pub struct AskedLedger {
     /// The report: a line for each question.
-    pub report: LoopReport,
+    pub text: Octets,
     /// Whether the answers were recorded, or why not.
     pub recorded: Result<(), LedgerOpenFault>,
 }
@@ -63,32 +61,24 @@ fn second_now(rt: &HostRuntime) -> Option<u32> {
 /// report. If the answers can't be recorded, it has the reason.
 ///
 /// Errors: `AllocError`, also after the meters were asked; no answer is then recorded.
-pub fn ask_with_ledger<S: Start, R: Wait, C: Wires, V: Watcher>(
+pub fn ask_with_ledger<S: Start, R: Threads + Sync, C: Connector, W: Watcher>(
     rt: &HostRuntime,
-    wait: &R,
-    plan: &LoopPlan<'_, V>,
+    threads: &R,
+    plan: &LedgeredPlan<'_, W>,
     path: &str,
     start: S,
-    wires: &mut C,
+    connector: &C,
 ) -> Result<AskedLedger, AllocError>
-    requires { length plan.now.list.jobs.now ≤ 2 ^ 32 }
-    ensures { IfOk result (IsAskedOnFile ⟦<FileFrom<S> as Disk>⟧ (image_at S.Start) plan.now.list
-        plan.now.limit (C.log wires.old) (C.log wires.new)) }
+    ensures { IfOk result (IsAskedOnFile ⟦<FileFrom<S> as Disk>⟧ (image_at S.Start)
+        (C.tells connector.now) plan.now.workers plan.now.jobs.now plan.now.passwords.now) }
 {
-    let alloc = rt.alloc();
-    let asked_at = second_now(rt);
-    let jobs = plan.list.jobs;
-    let found = blank_entries(alloc, jobs.len())?;
-    let LoopRun { report, board } = run_plan(wait, alloc, plan, NoBook, found, wires)?;
-    drop(board);
-    let answers = match answers_of(alloc, asked_at, jobs, report.lines.as_slice()) {
-        Ok(answers) => answers,
-        Err(fault) => {
-            drop(report);
-            return Err(fault);
+    match ask_meters(threads, rt.alloc(), plan, second_now(rt), connector) {
+        Ok(asked) => {
+            let AskedMeters { text, answers } = asked;
+            let recorded = append_answers(rt, path, answers.as_slice(), start);
+            drop(answers);
+            Ok(AskedLedger { text, recorded })
         }
-    };
-    let recorded = append_answers(rt, path, answers.as_slice(), start);
-    drop(answers);
-    Ok(AskedLedger { report, recorded })
+        Err(fault) => Err(fault),
+    }
 }

@@ -3,15 +3,15 @@
 //! A call that passes on the store of a file makes the proof read how that store works, which costs
 //! less over any disk than over a certain one. So these calls are here, once each, and the rest of
 //! the crate calls them.
-ghost use Rattle.std.specs.Prelude.{◌≡◌, ◌≤◌, ◌^◌, [], length, pos, replicate, IfOk, OnOk};
-ghost use Rattle.std.specs.Prelude.{IsTrue, false};
+ghost use Rattle.std.specs.Prelude.{◌≡◌, [], length, pos, replicate, Some, IfOk, OnOk, false, IsTrue};
 ghost use Rattle.sqlite.specs.State.{HasCleanDisk, IsUnchanged};
 ghost use Rattle.sqlite.specs.Files.{file_state};
 ghost use Rattle.campaign_ledger.specs.declared.entry.LedgerEntry.TheVariants.{NotSent};
-ghost use Rattle.sqlite_ledger.specs.Marks.{IsMarked, LeavesCommit};
+ghost use Rattle.sqlite_ledger.specs.Marks.{IsMarked, LeavesCommit, LeavesEntries};
+ghost use Rattle.sqlite_ledger.specs.Outcomes.{IsSafe};
 ghost use Rattle.sqlite_ledger.specs.Lines.{HasLedger};
 ghost use Rattle.sqlite_ledger.specs.Schema.{ledger_schema};
-ghost use Rattle.campaign_loop.specs.Planned.{RunsPlan};
+ghost use Rattle.ledger_campaigns.specs.Texts.{IsRunOnLedger};
 ghost use Rattle.ledger_files.specs.declared.end.LedgerEnd.TheVariants.{Closed};
 ghost use Rattle.ledger_files.specs.Answered.{AreAppended};
 ghost use Rattle.ledger_files.specs.Closings.{IsClosedWhole};
@@ -19,13 +19,13 @@ ghost use Rattle.ledger_files.specs.Reading.{AreAnswersRead, AreLinesRead};
 ghost use Rattle.ledger_files.specs.Runs.{IsEnd};
 
 use crate::answers::{append_all, read_all};
-use crate::connected::run_on_connection;
+use crate::connected::{run_on_connection, take_apart};
 use crate::end::LedgerEnd;
 use crate::reading::read_and_drop;
 use campaign_ledger::Ledger;
-use campaign_loop::{LoopPlan, LoopRun, Wires};
 use client_core::Job;
-use head_end::Watcher;
+use head_end::{Connector, Watcher};
+use ledger_campaigns::{LedgerTexts, LedgeredPlan};
 use ledger_reports::{LedgerLine, StateAnswer};
 use sqlite::{Connection, FileStore};
 use sqlite_disk::Disk;
@@ -33,6 +33,7 @@ use sqlite_ledger::{LedgerOpenFault, SqliteBook, open_book};
 use std::alloc::{AllocError, Global};
 use std::rt::HostRuntime;
 use std::sync::Wait;
+use std::thread::Threads;
 
 // A book over files on a disk.
 pub(crate) type DiskBook<D> = SqliteBook<FileStore<D>>;
@@ -69,21 +70,27 @@ pub(crate) fn open_on_disk<D: Disk + Drop>(
 }
 
 // Runs the jobs as `run_on_connection` does.
-pub(crate) fn run_on_disk<D: Disk + Drop, R: Wait, C: Wires, V: Watcher>(
-    rt: &R,
+pub(crate) fn run_on_disk<
+    D: Disk + Drop + Send,
+    R: Threads + Wait + Sync,
+    C: Connector,
+    W: Watcher,
+>(
+    threads: &R,
     alloc: Global,
-    plan: &LoopPlan<'_, V>,
+    plan: &LedgeredPlan<'_, W>,
     ledger: Ledger<DiskBook<D>>,
-    wires: &mut C,
-) -> Result<LoopRun<DiskBook<D>>, AllocError>
-    requires { length plan.now.list.jobs.now ≤ 2 ^ 32 }
-    ensures { IfOk result (λ run. RunsPlan
+    connector: &C,
+) -> Result<(Result<LedgerTexts, AllocError>, Option<Ledger<DiskBook<D>>>), AllocError>
+    requires { length ledger.entries ≡ length plan.now.jobs.now }
+    ensures { IfOk result (λ ended. IsRunOnLedger
         (λ book. HasCleanDisk (file_state book))
         (λ book place. IsMarked (file_state book).may_leave (pos place))
-        plan.now.list plan.now.limit ledger.book ledger.entries run.report run.board
-        (C.log wires.old) (C.log wires.new)) }
+        (λ book place outcome. IsSafe (file_state book).may_leave (pos place) outcome)
+        (λ book entries. LeavesEntries (file_state book).may_leave entries)
+        (C.tells connector.now) plan.now.jobs.now plan.now.passwords.now ledger ended.1 ended.0) }
 {
-    run_on_connection(rt, alloc, plan, ledger, wires)
+    run_on_connection(threads, alloc, plan, ledger, connector)
 }
 
 // Closes a connection, and returns whether that reported no error: the file then has all that was
@@ -103,12 +110,13 @@ pub(crate) fn close_whole<D: Disk + Drop>(conn: Connection<FileStore<D>>) -> boo
     }
 }
 
-// Closes a ledger on which a call has failed or not, and returns how it ended.
-pub(crate) fn close_on_disk<D: Disk + Drop>(book: DiskBook<D>, has_failed: bool) -> LedgerEnd
-    ensures end { IsEnd has_failed result }
-    ensures closed { result ≡ Closed → IsClosedWhole book }
+// Closes a ledger, and returns how it ended.
+pub(crate) fn close_on_disk<D: Disk + Drop>(ledger: Ledger<DiskBook<D>>) -> LedgerEnd
+    ensures end { IsEnd (Some ledger) result }
+    ensures closed { result ≡ Closed → IsClosedWhole ledger.book }
 {
-    let is_closed = close_whole(book.into_connection());
+    let (has_failed, conn) = take_apart(ledger);
+    let is_closed = close_whole(conn);
     if has_failed {
         LedgerEnd::Failed
     } else if is_closed {

@@ -7,6 +7,7 @@ pub enum LedgerEnd {
     Closed,
     /// No call on it failed; the file could not be closed.
     NotClosed,
-    /// A call on it failed, after which no command was sent.
+    /// A call on it failed, after which it gave no permit. Or the workers did not return it, which
+    /// no run does; no contract states that.
     Failed,
 }

@@ -1,9 +1,5 @@
-//! What the run after a crash finds, and what questions ask.
-ghost use Rattle.std.specs.Prelude.{◌≡◌, ℕ, pos, List, IsTrue};
-ghost use Rattle.std.specs.List.{AllByRecursion};
-ghost use Rattle.client_core.specs.declared.job.Verb.TheVariants.{ReadState};
-ghost use Rattle.ledger_reports.specs.declared.line.LedgerLine.{LedgerLine};
-ghost use Rattle.ledger_files.specs.Questions.{questions};
+//! What the run after a crash finds.
+ghost use Rattle.std.specs.Prelude.{◌≡◌, ℕ, pos, IsTrue};
 ghost use Rattle.sqlite.specs.declared.FileStore.{FileStore as Trees};
 ghost use Rattle.sqlite_store.specs.FileStore.{view, recovers, state};
 ghost use Rattle.sqlite.specs.Held.{Held, AreDatabases};
@@ -34,10 +30,4 @@ pub fn the_next_run_finds_what_was_left<L: Disk, N: Disk>()
         → opened.was.schema ≡ ledger_schema → (entries : ℕ → LedgerEntry)
         → IsLeft (file_state opened.was).committed.trees entries
         → (place : ℕ) → HasGone (entries place) → IsMarked (file_state now).may_leave (pos place) }
-{}
-
-/// Proves that each question reads the state, so that none of them switches.
-pub fn questions_switch_nothing()
-    ensures { (lines : List LedgerLine)
-        → AllByRecursion (λ job. job.verb ≡ ReadState) (questions lines) }
 {}

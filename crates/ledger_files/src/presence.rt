@@ -69,7 +69,7 @@ pub fn find_ledger(rt: &HostRuntime, path: &str) -> Result<LedgerPresence, Ledge
 /// Errors: those of [`open_ledger_from`]; `File` if it cannot be closed.
 pub fn make_ledger(rt: &HostRuntime, path: &str, jobs: &[Job]) -> Result<(), LedgerOpenFault> {
     match open_ledger_from(rt, path, jobs, Unknown) {
-        Ok(ledger) => match close_on_disk(ledger.into_book(), false) {
+        Ok(ledger) => match close_on_disk(ledger) {
             LedgerEnd::Closed => Ok(()),
             LedgerEnd::NotClosed | LedgerEnd::Failed => Err(LedgerOpenFault::File),
         },

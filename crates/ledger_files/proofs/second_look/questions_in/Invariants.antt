@@ -1,8 +1,0 @@
-use Rattle.std.proofs.Common.{◌≡◌, take}
-use Rattle.std.specs.List.{flat_map}
-use Rattle.ledger_files.specs.Questions.{question_in}
-use Rattle.ledger_files.proofs.second_look.questions_in.Given as goal
-
--- the questions of the lines so far
-abbrev pub invariant-lines : goal.invariant-lines
-invariant-lines l = l.jobs ≡ flat_map question_in (take l.line-index l.lines)
